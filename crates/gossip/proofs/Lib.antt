@@ -1,0 +1,15 @@
+pub mod Loops
+pub mod Unless
+pub mod TimestampLaws
+pub mod TimestampSteps
+pub mod Unions
+pub mod NumberLaws
+pub mod Spelling
+pub mod Puts
+pub mod Sound
+pub mod TimestampBytes
+pub mod HeadBytes
+pub mod EntryBytes
+pub mod FormatTheorems
+pub mod Reading
+pub mod Written

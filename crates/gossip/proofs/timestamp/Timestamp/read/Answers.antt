@@ -1,0 +1,16 @@
+use mathlib.Core.Path.{_≡_, sym, ap, _∙_}
+use Prim.Native.Nat.{_-_}
+use lib.ListN.{length}
+use borrow.Author.Needs.{needs}
+use Rattle.std.specs.declared.result.Result.the-variants.{Ok}
+use Rattle.std.proofs.shelf.Ways.{tells}
+use native.Mathlib.Omega.{arith}
+use Rattle.gossip.proofs.TimestampSteps.{padded-is, exact-length}
+use Rattle.gossip.proofs.timestamp.Timestamp.read.Needs as need
+
+pub returns : need.returns
+returns c =
+    let b = c .args .buffer .now in
+    let l = exact-length (c .args .n) (length b) (sym (c .if-not-exact .ensures tt)) in
+    let e = padded-is (c .args .n) b (c .copy-from-slice .last .self) l (c .copy-from-slice .ensures .after) in
+    record { answer = simp (sym (c .if-not-exact .ensures tt)) (ap Ok e) }

@@ -1,0 +1,10 @@
+pub mod Timestamps
+pub mod TimestampLaws
+pub mod Lattices
+pub mod Refusals
+pub mod Numbers
+pub mod Messages
+pub mod Format
+pub mod FormatLaws
+pub mod Contents
+pub mod WorkedCases

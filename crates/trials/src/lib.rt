@@ -1,0 +1,5 @@
+// Examples of what the other crates do, as tests: a crate that has tests of its own is proved twice, so the many stand here.
+#[cfg(test)]
+mod messages;
+#[cfg(test)]
+mod timestamps;
