@@ -1,12 +1,12 @@
 -- A test over a list, as a loop decides it: what is left decides the whole.
-use mathlib.Core.Path.{_≡_, refl, sym, ap, subst, _∙_}
-use mathlib.Core.List.{List, [], _∷_, _++_, map}
+use mathlib.Core.Path.{_≡_, refl, sym, ap, _∙_}
+use mathlib.Core.List.{List, [], _∷_, _++_}
 use mathlib.Core.Bool.{Bool, true, false, _&&_}
 use Prim.Native.Nat.{ℕ, _+_, _-_, _<_, _≤_}
 use native.Mathlib.Omega.{arith}
-use lib.Dec.{leb, eqb, ltb}
+use lib.Dec.{ltb}
 use lib.ListN.{length, take, drop, getD, length-drop}
-use Rattle.std.proofs.shelf.Lists.{drop-more, drop-all, at-drop-more, at-drop-all, take-more}
+use Rattle.std.proofs.shelf.Lists.{drop-more, at-drop-more, at-drop-all, take-more}
 use Rattle.std.proofs.shelf.Tests.{le-ltb, lt-ltb, and-from, and-parts}
 use Rattle.gossip.specs.Messages.{rises}
 use Rattle.gossip.specs.Numbers.{every}

@@ -1,5 +1,5 @@
 -- Laws of little-endian numbers, over the width.
-use mathlib.Core.Path.{_≡_, refl, sym, ap, subst, _∙_}
+use mathlib.Core.Path.{_≡_, refl, sym, ap, _∙_}
 use mathlib.Core.List.{List, [], _∷_, _++_, map, append-assoc, append-nil}
 use Rattle.std.proofs.shelf.Lists.{take-more-set, map-push, getD-map}
 use Prim.Native.Nat.{ℕ, zero, suc, _+_, _-_, _*_, _/_, _%_, _^_, _<_, _≤_}
@@ -7,7 +7,7 @@ use native.Mathlib.Nat.{pow-suc, pow-le-pow-right, zero-mul, suc-mul, add-comm, 
 use native.Mathlib.Numerals.{add-one}
 use native.Mathlib.Omega.{arith}
 use lib.ListN.{length, take, drop, getD, set, length-drop, length-take, length-map}
-use lib.Seq.{drop-cons, drop-drop, getD-drop, getD-take, take-all}
+use lib.Seq.{drop-cons, drop-drop, getD-drop, take-all}
 use Rattle.std.specs.shelf.Lists.{All}
 use Rattle.gossip.specs.Numbers.{number, bytes, field, pieces, counters, Bytes}
 
@@ -55,12 +55,6 @@ bytes-number (x ∷ b) h =
     let m : (x + 256 * number b) % 256 ≡ x = omega arith in
     let d : (x + 256 * number b) / 256 ≡ number b = omega arith in
     rw (m, d) (ap (λ t. x ∷ t) (bytes-number b (bytes-tail x b h)))
-
-pub bytes-under : (k n : ℕ) → Bytes (bytes k n)
-unfolding bytes
-bytes-under zero n i = omega arith
-bytes-under (suc k) n zero = omega arith
-bytes-under (suc k) n (suc i) = bytes-under k (n / 256) i
 
 pub number-small : (b : List ℕ) (k : ℕ) → Bytes b → length b ≤ k → number b < 256 ^ k
 number-small b k h l =

@@ -4,7 +4,7 @@ use mathlib.Core.List.{List, [], _∷_, _++_, append-assoc, append-nil}
 use Prim.Native.Nat.{ℕ, zero, suc, _+_, _<_, _≤_}
 use native.Mathlib.Nat.{add-zero}
 use native.Mathlib.Omega.{arith}
-use lib.ListN.{length, take, drop, getD, length-append, length-drop, take-append-drop}
+use lib.ListN.{length, take, drop, getD, length-append, take-append-drop}
 use lib.Seq.{drop-drop, length-take-le, take-at, drop-append-add}
 use borrow.Rule.Slice.PartMut.{putMid}
 use Rattle.gossip.specs.Numbers.{bytes, spell, total, putAt, joined}
@@ -35,11 +35,6 @@ put-then at k xs ys o o₁ o₂ e l p q = q ∙ ap (putAt k ys) p ∙ put-more a
 -- what is written to the front can be taken from there
 pub take-put : (k : ℕ) (xs o out : List ℕ) → length xs ≡ k → out ≡ putAt 0 xs o → take k out ≡ xs
 take-put k xs o out l e = ap (take k) e ∙ take-at xs (drop (0 + length xs) o) k l
-
-pub length-put : (at : ℕ) (xs o : List ℕ) → at + length xs ≤ length o → length (putAt at xs o) ≡ length o
-length-put at xs o l =
-    let a = length-take-le at o (omega arith) in
-    simp (length-append, length-drop) (omega arith)
 
 -- widths and numbers, one more of each
 pub total-more : (ws : List ℕ) (i : ℕ) → i < length ws → total (take (i + 1) ws) ≡ total (take i ws) + getD ws i 0

@@ -1,8 +1,8 @@
 -- The steps of the reader, test by test and entry by entry.
-use mathlib.Core.Path.{_≡_, refl, sym, ap, subst, _∙_}
+use mathlib.Core.Path.{_≡_, refl, sym, ap, _∙_}
 use mathlib.Core.List.{List, [], _∷_, _++_, map, append-assoc, append-nil}
 use mathlib.Core.Bool.{Bool, true, false, _&&_, cond}
-use Prim.Native.Nat.{ℕ, _+_, _-_, _*_, _<_, _≤_}
+use Prim.Native.Nat.{ℕ, _+_, _-_, _<_, _≤_}
 use native.Mathlib.Omega.{arith}
 use lib.Dec.{eqb, leb}
 use lib.ListN.{length, take, drop, getD, set}
@@ -14,7 +14,7 @@ use Rattle.std.proofs.shelf.Lists.{take-rest, drop-drop, drop-more, take-more-s
 use Rattle.std.proofs.shelf.Tests.{and-parts, and-from, and-left, and-right, leb-true, eqb-true, le-leb, lt-leb, eq-eqb, ne-eqb}
 use Rattle.gossip.specs.Format.{decode, entryBytes, entryLength, decodeHead, headAt, layout, entriesAt, messageLength, timestampAt, marked, stateAt, valueAt, tombstoneAt, seatAt, alongside, entriesOf, withEntries, decodeEntries}
 use Rattle.gossip.specs.Lattices.{Kind}
-use Rattle.gossip.specs.Messages.{Message, origin, latest, rises, seats}
+use Rattle.gossip.specs.Messages.{origin, latest, rises, seats}
 use Rattle.gossip.specs.Numbers.{number, field, pieces}
 use Rattle.gossip.specs.Refusals.{unless, andThen}
 use Rattle.gossip.specs.declared.entry.Entry.{Entry}

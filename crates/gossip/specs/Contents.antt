@@ -4,7 +4,6 @@
 -- started h        the message without entries that begins with a head, or the refusal
 -- pushed m e       the answer to one more entry, and the message after it
 use mathlib.Core.List.{[], _∷_, _++_}
-use mathlib.Core.Bool.{Bool}
 use Prim.Native.Nat.{ℕ}
 use lib.Dec.{leb, ltb}
 use lib.ListN.{length, take}

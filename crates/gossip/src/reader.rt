@@ -1,14 +1,13 @@
 // Reading a gossip message.
 ghost use mathlib.Core.Path.{_≡_};
-ghost use mathlib.Core.Bool.{true, _&&_};
+ghost use mathlib.Core.Bool.{true};
 ghost use mathlib.Core.List.{map};
-ghost use Prim.Native.Nat.{_+_, _*_, _<_, _≤_};
-ghost use lib.Dec.{eqb};
+ghost use Prim.Native.Nat.{_*_, _<_, _≤_};
 ghost use lib.ListN.{length, getD};
 ghost use Rattle.std.specs.Vec.{made};
 ghost use Rattle.gossip.specs.Contents.{contents};
 ghost use Rattle.gossip.specs.Format.{decode, decodeHead, decodeEntries, encode, entryLength, messageLength, layout, stateAt, seatAt, valueAt, tombstoneAt};
-ghost use Rattle.gossip.specs.Messages.{sound, soundHead, ofKind, origin, rises};
+ghost use Rattle.gossip.specs.Messages.{sound, soundHead, ofKind, rises};
 ghost use Rattle.gossip.specs.Numbers.{field, pieces};
 ghost use Rattle.gossip.specs.Refusals.{outcome};
 use crate::entry::Entry;

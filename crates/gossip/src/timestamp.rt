@@ -1,11 +1,11 @@
 // Multipart timestamps: one counter for each replica of a group.
 ghost use mathlib.Core.Path.{_≡_};
 ghost use mathlib.Core.Bool.{cond, true};
-ghost use mathlib.Core.List.{[], _∷_};
-ghost use Prim.Native.Nat.{ℕ, _+_, _*_, _^_, _<_, _≤_};
-ghost use lib.Dec.{ltb, leb, eqb};
-ghost use lib.ListN.{length, getD, set, take};
-ghost use Rattle.std.specs.declared.result.Result.the-variants.{Ok, Err};
+ghost use mathlib.Core.List.{[]};
+ghost use Prim.Native.Nat.{_*_, _≤_};
+ghost use lib.Dec.{ltb};
+ghost use lib.ListN.{length, take};
+ghost use Rattle.std.specs.declared.result.Result.the-variants.{Ok};
 ghost use Rattle.std.specs.Results.{isOk};
 ghost use Rattle.gossip.specs.Format.{timestampAt};
 ghost use Rattle.gossip.specs.Messages.{wideTimestamp};

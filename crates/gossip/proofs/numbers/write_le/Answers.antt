@@ -1,10 +1,9 @@
-use mathlib.Core.Path.{_≡_, refl, sym, ap, subst, _∙_}
-use mathlib.Core.List.{[], _++_}
-use Prim.Native.Nat.{ℕ, suc, _+_, _-_, _*_, _/_, _%_, _^_, _<_, _≤_}
+use mathlib.Core.Path.{_≡_, subst}
+use mathlib.Core.List.{_++_}
+use Prim.Native.Nat.{suc, _+_, _-_, _<_}
 use native.Mathlib.Omega.{arith}
 use native.Mathlib.Nat.{sub-zero}
-use lib.ListN.{length, drop, getD, take, length-set}
-use lib.Seq.{take-all}
+use lib.ListN.{length, take}
 use Rattle.gossip.specs.Numbers.{bytes}
 use Rattle.gossip.proofs.NumberLaws.{written-more, written-all}
 use Rattle.gossip.proofs.numbers.write_le.Needs as need

@@ -1,6 +1,5 @@
 use mathlib.Core.Path.{_≡_, sym, _∙_}
 use borrow.Author.Needs.{needs}
-use native.Mathlib.Omega.{arith}
 use Rattle.gossip.proofs.Reading.{timestamp-rest, state-value, state-tombstone, state-none}
 use Rattle.gossip.proofs.reader.read_state.Needs as need
 

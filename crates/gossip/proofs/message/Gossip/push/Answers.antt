@@ -1,16 +1,15 @@
 use mathlib.Core.Path.{_≡_, refl, sym, ap, _∙_}
 use mathlib.Core.Bool.{true}
 use mathlib.Core.List.{_∷_, [], _++_}
-use Prim.Native.Nat.{_+_, _^_, _<_, _≤_}
+use Prim.Native.Nat.{_+_, _^_, _<_}
 use native.Mathlib.Omega.{arith}
 use lib.Dec.{ltb}
-use lib.ListN.{length, take, set, length-set}
+use lib.ListN.{length, take, length-set}
 use Rattle.std.proofs.shelf.Lists.{length-take-le, take-more-set}
 use Rattle.std.proofs.shelf.Tests.{and-from, lt-ltb}
 use Rattle.std.specs.declared.result.Result.the-variants.{Ok}
 use Rattle.gossip.specs.Contents.{contents, pushed, after}
-use Rattle.gossip.specs.Messages.{Message, sound}
-use Rattle.gossip.specs.declared.entry.Entry.{Entry}
+use Rattle.gossip.specs.Messages.{sound}
 use Rattle.gossip.proofs.Sound.{sound-push, parts, head-parts}
 use Rattle.gossip.proofs.message.Gossip.push.Needs as need
 

@@ -1,5 +1,5 @@
-use mathlib.Core.Path.{_≡_, sym, ap, _∙_}
-use mathlib.Core.Bool.{Bool, _&&_}
+use mathlib.Core.Path.{ap}
+use mathlib.Core.Bool.{Bool}
 use Rattle.std.proofs.shelf.Tests.{le-leb, lt-leb}
 use Rattle.gossip.proofs.message.building.is_covered.Needs as need
 

@@ -1,11 +1,10 @@
 use mathlib.Core.Path.{_≡_, refl, sym, ap, _∙_}
 use mathlib.Core.List.{_∷_, [], _++_}
-use Prim.Native.Nat.{_+_, _-_, _*_, _<_}
+use Prim.Native.Nat.{_+_, _-_, _*_}
 use native.Mathlib.Nat.{mul-comm}
 use native.Mathlib.Omega.{arith}
-use lib.ListN.{length, replicate}
+use lib.ListN.{replicate}
 use Rattle.gossip.specs.Numbers.{counters, field, pieces}
-use Rattle.gossip.specs.Timestamps.{padded}
 use Rattle.gossip.specs.declared.timestamp.Timestamp.{Timestamp}
 use Rattle.gossip.proofs.NumberLaws.{counters-more, length-counters}
 use Rattle.gossip.proofs.TimestampSteps.{counted-more}

@@ -1,15 +1,13 @@
 use mathlib.Core.Path.{_≡_, refl, sym, ap, _∙_}
-use mathlib.Core.Bool.{true, _&&_}
 use Prim.Native.Nat.{_<_, _≤_, _-_, _^_}
 use native.Mathlib.Nat.{sub-zero}
 use native.Mathlib.Omega.{arith}
 use lib.Dec.{ltb}
-use lib.ListN.{length, getD, take}
+use lib.ListN.{length, getD}
 use borrow.Author.Needs.{needs}
 use Rattle.std.proofs.shelf.Lists.{take-all}
 use Rattle.std.proofs.shelf.Tests.{lt-ltb, eq-eqb, and-from}
 use Rattle.gossip.specs.Numbers.{every}
-use Rattle.gossip.specs.Timestamps.{zeroFrom}
 use Rattle.gossip.proofs.Loops.{every-take}
 use Rattle.gossip.proofs.TimestampSteps.{zeroFrom-more, zeroFrom-all}
 use Rattle.gossip.proofs.timestamp.Timestamp.is_of.Needs as need

@@ -1,10 +1,7 @@
-use mathlib.Core.Path.{_≡_, sym, ap, _∙_}
+use mathlib.Core.Path.{sym, ap}
 use Prim.Native.Nat.{_-_}
 use lib.ListN.{length}
-use borrow.Author.Needs.{needs}
 use Rattle.std.specs.declared.result.Result.the-variants.{Ok}
-use Rattle.std.proofs.shelf.Ways.{tells}
-use native.Mathlib.Omega.{arith}
 use Rattle.gossip.proofs.TimestampSteps.{padded-is, exact-length}
 use Rattle.gossip.proofs.timestamp.Timestamp.read.Needs as need
 
