@@ -2,7 +2,8 @@
 --
 -- contents g       what a message says
 -- started h        the message without entries that begins with a head, or the refusal
--- pushed m e       the answer to one more entry, and the message after it
+-- pushed m e       the message with one more entry at its end, or the refusal
+-- after r m        what the message m is after a call that answers r: what it made, or m itself where it is refused
 use mathlib.Core.List.{[], _∷_, _++_}
 use Prim.Native.Nat.{ℕ}
 use lib.Dec.{leb, ltb}
@@ -26,7 +27,6 @@ started h =
     (unless (leb (h .clock) latest) 24
     (Ok (record { head = h; entries = [] }))))
 
--- the message with one more entry at its end
 abbrev pub pushed : Message → Entry → Result Message ℕ
 pushed m e =
     unless (ltb (length (m .entries)) 64) 23
@@ -34,7 +34,6 @@ pushed m e =
     (unless (allowed (m .head .timestamp) (e .state)) 26
     (Ok (record { head = m .head; entries = m .entries ++ e ∷ [] }))))
 
--- what a refused call leaves, or the message that it makes
 abbrev pub after : Result Message ℕ → Message → Message
 after (Ok m) old = m
 after (Err e) old = old

@@ -3,12 +3,13 @@
 -- Message       a head and entries
 -- latest        the latest time and clock reading, 2^40 - 1
 -- seats es      the seats of entries, in their order
+-- below x xs    x is below the first of xs, if there is one
 -- rises xs      each number is above the one before it
 -- origin n p    n is 1 to 7, and replica p is one of the n
--- wideTimestamp t, wideState s   seven parts of 32 bits: true of every timestamp that the code holds
+-- wide..        a timestamp, or a tombstone's, has seven parts of 32 bits: true of all that the code holds
 -- allowed t s   a state that may stand in a message with the timestamp t: a value; or a tombstone with a time, and a timestamp at or under t
--- sound m       the message keeps every rule of the format but that of its kind
--- ofKind k m    its values are values of the kind k
+-- sound..       a head, an entry beside a timestamp, or a message keeps every rule of the format but that of its kind
+-- ofKind k m    the message's values are values of the kind k
 use mathlib.Core.List.{List, [], _∷_, map}
 use mathlib.Core.Bool.{Bool, true, _&&_}
 use Prim.Native.Nat.{ℕ, _^_}

@@ -22,7 +22,7 @@ pub struct Lines<R> {
 }
 
 impl<R: Read> Lines<R> {
-    pub fn new(input: R) -> Lines<R> {
+    pub(crate) fn new(input: R) -> Lines<R> {
         Lines {
             reader: BufReader::new(input),
             kept: [0; KEPT],
@@ -31,7 +31,7 @@ impl<R: Read> Lines<R> {
     }
 
     // The next line without its line end, cut to what is kept of it; or none at the end of the input.
-    pub fn next(&mut self) -> io::Result<Option<&[u8]>> {
+    pub(crate) fn next(&mut self) -> io::Result<Option<&[u8]>> {
         if !self.fill()? {
             return Ok(None);
         }
