@@ -21,13 +21,7 @@ use Rattle.gossip.specs.declared.entry.Entry.{Entry}
 use Rattle.gossip.specs.declared.entry.State.{State}
 use Rattle.gossip.specs.declared.head.Head.{Head}
 use Rattle.gossip.specs.declared.timestamp.Timestamp.{Timestamp}
-
--- a test that holds, and one that fails
-passed : {X : Type 0} {r : Result X ℕ} {ok : Bool} (e : ℕ) (s : Result X ℕ) → ok ≡ true → r ≡ unless ok e s → r ≡ s
-passed e s t p = p ∙ ap (λ b. unless b e s) t
-
-failed : {X : Type 0} {r : Result X ℕ} {ok : Bool} (e : ℕ) (s : Result X ℕ) → ok ≡ false → r ≡ unless ok e s → Err e ≡ r
-failed e s t p = sym (p ∙ ap (λ b. unless b e s) t)
+use Rattle.gossip.proofs.Unless.{passed, failed}
 
 -- The head
 
@@ -61,38 +55,38 @@ module _ (k : Kind) (b : List ℕ) where
   all-tests = refl
 
   pub short : length b < 24 → Err 20 ≡ decodeHead k b
-  short h = failed 20 from21 (lt-leb 24 _ h) all-tests
+  short h = sym (all-tests ∙ failed _ 20 from21 (lt-leb 24 _ h))
 
 -- each refusal follows from the tests before it and its own
 module _ (k : Kind) (b : List ℕ) (long : 24 ≤ length b) where
   at21 : decodeHead k b ≡ from21 k b
-  at21 = passed 20 (from21 k b) (le-leb 24 _ long) (all-tests k b)
+  at21 = all-tests k b ∙ passed _ 20 _ _ (le-leb 24 _ long) refl
 
   pub misformed : (getD b 0 0 ≡ 1 → ⊥) → Err 21 ≡ decodeHead k b
-  misformed f = failed 21 (from22 k b) (ne-eqb _ 1 f) at21
+  misformed f = sym (at21 ∙ failed _ 21 (from22 k b) (ne-eqb _ 1 f))
 
 module _ (k : Kind) (b : List ℕ) (long : 24 ≤ length b) (formed : getD b 0 0 ≡ 1) where
   at22 : decodeHead k b ≡ from22 k b
-  at22 = passed 21 (from22 k b) (eq-eqb _ 1 formed) (at21 k b long)
+  at22 = at21 k b long ∙ passed _ 21 _ _ (eq-eqb _ 1 formed) refl
 
   pub other-kind : (getD b 1 0 ≡ k .number → ⊥) → Err 22 ≡ decodeHead k b
-  other-kind n = failed 22 (from23 k b) (and-left _ _ (ne-eqb _ _ n)) at22
+  other-kind n = sym (at22 ∙ failed _ 22 (from23 k b) (and-left _ _ (ne-eqb _ _ n)))
 
   pub no-origin : origin (getD b 2 0) (getD b 3 0) ≡ false → Err 22 ≡ decodeHead k b
-  no-origin o = failed 22 (from23 k b) (and-right _ _ o) at22
+  no-origin o = sym (at22 ∙ failed _ 22 (from23 k b) (and-right _ _ o))
 
 module _ (k : Kind) (b : List ℕ) (long : 24 ≤ length b) (formed : getD b 0 0 ≡ 1) (kind : getD b 1 0 ≡ k .number) (from : origin (getD b 2 0) (getD b 3 0) ≡ true) where
   at23 : decodeHead k b ≡ from23 k b
-  at23 = passed 22 (from23 k b) (and-from _ _ (eq-eqb _ _ kind) from) (at22 k b long formed)
+  at23 = at22 k b long formed ∙ passed _ 22 _ _ (and-from _ _ (eq-eqb _ _ kind) from) refl
 
   pub mislaid : isLaidOut k b ≡ false → Err 23 ≡ decodeHead k b
-  mislaid l = failed 23 (from24 k b) l at23
+  mislaid l = sym (at23 ∙ failed _ 23 (from24 k b) l)
 
   pub too-late : isLaidOut k b ≡ true → latest < field 16 8 b → Err 24 ≡ decodeHead k b
-  too-late l c = failed 24 (Ok (headAt b)) (lt-leb _ _ c) (passed 23 (from24 k b) l at23)
+  too-late l c = sym (at23 ∙ passed _ 23 _ _ l (failed _ 24 (Ok (headAt b)) (lt-leb _ _ c)))
 
   pub head-read : isLaidOut k b ≡ true → field 16 8 b ≤ latest → Ok (headAt b) ≡ decodeHead k b
-  head-read l c = sym (passed 24 (Ok (headAt b)) (le-leb _ _ c) (passed 23 (from24 k b) l at23))
+  head-read l c = sym (at23 ∙ passed _ 23 _ _ l (passed _ 24 _ _ (le-leb _ _ c) refl))
 
 -- the layout test on what the code reads behind the first four bytes is that of the bytes
 pub laid-out-is : (k : Kind) (b : List ℕ) {n count t e w : ℕ} {r : Bool} → r ≡ layout n count t e w (length b) → n ≡ getD b 2 0

@@ -1,7 +1,7 @@
 -- What a sound message says part by part, and how it stays sound.
 use mathlib.Core.Path.{_≡_, refl, sym, ap, _∙_}
 use mathlib.Core.List.{List, [], _∷_, _++_}
-use mathlib.Core.Bool.{Bool, true, false, _&&_}
+use mathlib.Core.Bool.{true, _&&_}
 use Prim.Native.Nat.{ℕ, suc, _-_, _^_, _<_, _≤_}
 use native.Mathlib.Numerals.{unary-clauses}
 use native.Mathlib.Omega.{arith}
@@ -16,10 +16,7 @@ use Rattle.gossip.specs.declared.entry.Entry.{Entry}
 use Rattle.gossip.specs.declared.head.Head.{Head}
 use Rattle.gossip.specs.declared.timestamp.Timestamp.{Timestamp}
 use Rattle.gossip.proofs.Loops.{every-push}
-
-and-true : (b : Bool) → (b && true) ≡ b
-and-true true = refl
-and-true false = refl
+use Rattle.gossip.proofs.Bools.{and-true}
 
 -- a number behind rising ones: the last of them decides
 pub rises-push : (xs : List ℕ) (x : ℕ) → rises xs ≡ true → 0 < length xs → ltb (getD xs (length xs - 1) 0) x ≡ rises (xs ++ x ∷ [])

@@ -1,7 +1,7 @@
 -- One turn of the loops over the parts. Assumes nothing.
-use mathlib.Core.Path.{_≡_, refl, sym, ap, _∙_}
+use mathlib.Core.Path.{_≡_, sym, ap, _∙_}
 use mathlib.Core.List.{List, [], _∷_, _++_}
-use mathlib.Core.Bool.{Bool, true, false, _&&_, _||_}
+use mathlib.Core.Bool.{Bool, true, _&&_, _||_}
 use mathlib.Core.Logic.{_⊎_, inl, inr}
 use Prim.Native.Nat.{ℕ, suc, _+_, _-_, _<_, _≤_, max}
 use lib.Dec.{leb, ltb, eqb}
@@ -11,14 +11,7 @@ use Rattle.std.proofs.shelf.Lists.{drop-more, drop-all, take-more-set, drop-set
 use Rattle.std.proofs.shelf.Tests.{eqb-true, and-parts, cases-lt, lt-ltb, le-ltb}
 use native.Mathlib.Omega.{arith}
 use Rattle.gossip.specs.Timestamps.{under, merged, padded, zeroFrom, exactly}
-
-and-assoc : (a b c : Bool) → ((a && b) && c) ≡ (a && (b && c))
-and-assoc true b c = refl
-and-assoc false b c = refl
-
-and-true : (a : Bool) → (a && true) ≡ a
-and-true true = refl
-and-true false = refl
+use Rattle.gossip.proofs.Bools.{and-assoc, and-true}
 
 pub under-more : (b : Bool) (s t : List ℕ) (i : ℕ) → i < length s → i < length t
     → ((b && leb (getD s i 0) (getD t i 0)) && under (drop (i + 1) s) (drop (i + 1) t)) ≡ (b && under (drop i s) (drop i t))

@@ -11,6 +11,10 @@ use Rattle.gossip.specs.Refusals.{unless, andThen}
 pub passed : {X : Type 0} (ok : Bool) (e : ℕ) (r x : Result X ℕ) → ok ≡ true → r ≡ x → unless ok e r ≡ x
 passed ok e r x t q = rw t q
 
+-- a test that fails refuses
+pub failed : {X : Type 0} (ok : Bool) (e : ℕ) (r : Result X ℕ) → ok ≡ false → unless ok e r ≡ Err e
+failed ok e r t = rw t
+
 -- what is not refused passed the test
 pub unless-ok : {X : Type 0} (ok : Bool) (e : ℕ) (r : Result X ℕ) (x : X) → unless ok e r ≡ Ok x → (ok ≡ true) × (r ≡ Ok x)
 unless-ok true e r x q = (refl, q)

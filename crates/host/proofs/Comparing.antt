@@ -9,21 +9,14 @@ use lib.ListN.{length, replicate}
 use mir.Val.{boolByte}
 use Rattle.gossip.specs.Timestamps.{under, padded}
 use Rattle.gossip.proofs.TimestampLaws.{under-refl}
-
-and-assoc : (a b c : Bool) → (a && (b && c)) ≡ ((a && b) && c)
-and-assoc true b c = refl
-and-assoc false b c = refl
-
-and-true : (b : Bool) → (b && true) ≡ b
-and-true true = refl
-and-true false = refl
+use Rattle.gossip.proofs.Bools.{and-assoc, and-true}
 
 -- two parts each, compared one behind the other
 under-append : (s t x y : List ℕ) → length s ≡ length t → under (s ++ x) (t ++ y) ≡ (under s t && under x y)
 under-append [] [] x y l = refl
 under-append [] (b ∷ t) x y l = absurd (omega arith)
 under-append (a ∷ s) [] x y l = absurd (omega arith)
-under-append (a ∷ s) (b ∷ t) x y l = ap (λ r. leb a b && r) (under-append s t x y (omega arith)) ∙ and-assoc (leb a b) _ _
+under-append (a ∷ s) (b ∷ t) x y l = ap (λ r. leb a b && r) (under-append s t x y (omega arith)) ∙ sym (and-assoc (leb a b) _ _)
 
 pub under-padded : (s t : List ℕ) → length s ≡ length t → under (padded s) (padded t) ≡ under s t
 under-padded s t l =

@@ -2,4 +2,8 @@
 #[cfg(test)]
 mod messages;
 #[cfg(test)]
+mod reading;
+#[cfg(test)]
+mod tables;
+#[cfg(test)]
 mod timestamps;
