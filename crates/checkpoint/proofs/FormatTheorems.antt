@@ -3,65 +3,65 @@ use Rattle.std.proofs.Common.{◌≡◌, ℕ, ◌+◌, true, ◌&&◌, eqb, List
 use lib.ListN.{get_or-append}
 use lib.Seq.{take-append-le, drop-append-le}
 use Rattle.std.proofs.lemmas.Bool.{and_parts, and_from, eq-eqb, eqb-true}
-use Rattle.gossip.specs.Format.{decode, encode, encodeTimestamp, messageLength}
+use Rattle.gossip.specs.Format.{decode, encode, encode_timestamp, message_length}
 use Rattle.gossip.specs.Lattices.{Kind}
-use Rattle.gossip.specs.Messages.{Message, ofKind}
+use Rattle.gossip.specs.Messages.{Message, of_kind}
 use Rattle.gossip.specs.Numbers.{number, joined}
 use Rattle.gossip.specs.Refusals.{and_then}
 use Rattle.gossip.proofs.FormatTheorems as gossip
 use Rattle.gossip.proofs.NumberLaws.{bytes_take, bytes_drop}
-use Rattle.gossip.proofs.Sound.{parts, head-parts}
-use Rattle.gossip.proofs.Unless.{andThen-ok, passed, unless-ok}
-use Rattle.gossip.proofs.Written.{message-fits}
-use Rattle.checkpoint.specs.Checkpoints.{Saved, soundSaved, rowsHold}
-use Rattle.checkpoint.specs.Format.{decodeSaved, encodeSaved, frontLength, rows_at, rowsLength, withRows}
-use Rattle.checkpoint.specs.FormatLaws.{Reads-back, Sole-spelling, Reads-sound, Lengths}
-use Rattle.checkpoint.proofs.RowBytes.{rows_back, rows_fit, rows_long, rowsAt-sound, rowsAt-spelled}
-use Rattle.checkpoint.proofs.Rows.{saved-parts}
+use Rattle.gossip.proofs.Sound.{parts, head_to_parts}
+use Rattle.gossip.proofs.Unless.{and_then_ok, passed, unless_ok}
+use Rattle.gossip.proofs.Written.{message_fits}
+use Rattle.checkpoint.specs.Checkpoints.{Saved, sound_saved, rows_all_hold}
+use Rattle.checkpoint.specs.Format.{decode_saved, encode_saved, front_length, rows_at, rows_length, with_rows_of}
+use Rattle.checkpoint.specs.FormatLaws.{ReadsBack, SoleSpelling, ReadsSound, Lengths}
+use Rattle.checkpoint.proofs.RowBytes.{rows_back, rows_fit, rows_long, rows_at-sound, rows_at-spelled}
+use Rattle.checkpoint.proofs.Rows.{saved_parts}
 
 -- What is written
 
 -- a message that reads says how long it is, whatever stands behind it
-front-is : (k : Kind) (b r : List ℕ) (m : Message) → decode k b ≡ Ok m → frontLength (b ++ r) ≡ length b
-front-is k b r m e =
-    let l = gossip.reads-long k b m e in
+front_is : (k : Kind) (b r : List ℕ) (m : Message) → decode k b ≡ Ok m → front_length (b ++ r) ≡ length b
+front_is k b r m e =
+    let l = gossip.reads_long k b m e in
     let n : get_or (b ++ r) 2 0 ≡ get_or b 2 0 = get_or-append b r 0 2 (omega arith) in
     let c : take 2 (drop 8 (b ++ r)) ≡ take 2 (drop 8 b) = ap (take 2) (drop-append-le 8 b r (omega arith)) ∙ take-append-le 2 (drop 8 b) r (simp length-drop (omega arith)) in
-    (λ i. messageLength (n i) (number (c i))) ∙ sym l
+    (λ i. message_length (n i) (number (c i))) ∙ sym l
 
-pub reads-back : Reads-back
-unfolding decodeSaved encodeSaved
-reads-back k laws c s o =
+pub reads_back : ReadsBack
+unfolding decode_saved encode_saved
+reads_back k laws c s o =
     let m = c.message in
     let h = c.message.head in
-    let p = saved-parts c s in
-    let r = joined (encodeTimestamp h.n) (take h.n c.rows) in
-    let d = gossip.reads-back k laws m p.message o in
-    let f = front-is k (encode k m) r m d in
+    let p = saved_parts c s in
+    let r = joined (encode_timestamp h.n) (take h.n c.rows) in
+    let d = gossip.reads_back k laws m p.message o in
+    let f = front_is k (encode k m) r m d in
     let front = take_at (encode k m) r _ (sym f) in
     let rest = drop_at (encode k m) r _ (sym f) in
     let long = rows_long h.n h.timestamp c.rows p.head.most p.rows in
     let back = rows_back h.n h.timestamp c.rows p.head.most p.rows p.head.zeros in
     let hold = and_from _ _ p.rows.beneath p.above in
-    (λ i. and_then (decode k (front i)) (λ x. withRows x (rest i))) ∙ ap (λ z. and_then z (λ x. withRows x r)) d
-    ∙ passed _ 0 _ _ (and_from _ _ (eq-eqb _ _ long) (ap (rowsHold h.sender h.timestamp) back ∙ hold)) (ap (λ rows. Ok record { message = m; rows = rows }) back)
+    (λ i. and_then (decode k (front i)) (λ x. with_rows_of x (rest i))) ∙ ap (λ z. and_then z (λ x. with_rows_of x r)) d
+    ∙ passed _ 0 _ _ (and_from _ _ (eq-eqb _ _ long) (ap (rows_all_hold h.sender h.timestamp) back ∙ hold)) (ap (λ rows. Ok record { message = m; rows = rows }) back)
 
 -- a checkpoint is as long as the format says
-pub saved-long : (k : Kind) (c : Saved) → soundSaved c ≡ true → length (encodeSaved k c) ≡ messageLength c.message.head.n (length c.message.entries) + rowsLength c.message.head.n
-unfolding encodeSaved
-saved-long k c s =
+pub saved_long : (k : Kind) (c : Saved) → sound_saved c ≡ true → length (encode_saved k c) ≡ message_length c.message.head.n (length c.message.entries) + rows_length c.message.head.n
+unfolding encode_saved
+saved_long k c s =
     let h = c.message.head in
-    let p = saved-parts c s in
-    length-append (encode k c.message) (joined (encodeTimestamp h.n) (take h.n c.rows))
-    ∙ (λ i. gossip.sound-long k c.message p.message i + rows_long h.n h.timestamp c.rows p.head.most p.rows i)
+    let p = saved_parts c s in
+    length-append (encode k c.message) (joined (encode_timestamp h.n) (take h.n c.rows))
+    ∙ (λ i. gossip.sound_long k c.message p.message i + rows_long h.n h.timestamp c.rows p.head.most p.rows i)
 
 pub lengths : Lengths
 lengths = record {
-  length-of = saved-long;
+  length_of = saved_long;
   at_most = λ k c s.
-      let p = saved-parts c s in
+      let p = saved_parts c s in
       let few = (parts c.message p.message).few in
-      omega (arith, saved-long k c s, message-fits c.message.head.n (length c.message.entries) p.head.most few, rows_fit c.message.head.n p.head.most);
+      omega (arith, saved_long k c s, message_fits c.message.head.n (length c.message.entries) p.head.most few, rows_fit c.message.head.n p.head.most);
 }
 
 -- What reads
@@ -69,41 +69,41 @@ lengths = record {
 -- a checkpoint is the message that the front spells, and the rows that the rest spells
 record SavedRead (k : Kind) (b : List ℕ) (c : Saved) : Type 0 where
   message : Message
-  front : decode k (take (frontLength b) b) ≡ Ok message
-  square : length (drop (frontLength b) b) ≡ rowsLength message.head.n
-  hold : rowsHold message.head.sender message.head.timestamp (rows_at message.head.n (drop (frontLength b) b)) ≡ true
-  same : record { message = message; rows = rows_at message.head.n (drop (frontLength b) b) } ≡ c
+  front : decode k (take (front_length b) b) ≡ Ok message
+  square : length (drop (front_length b) b) ≡ rows_length message.head.n
+  hold : rows_all_hold message.head.sender message.head.timestamp (rows_at message.head.n (drop (front_length b) b)) ≡ true
+  same : record { message = message; rows = rows_at message.head.n (drop (front_length b) b) } ≡ c
 
-saved_read : (k : Kind) (b : List ℕ) (c : Saved) → decodeSaved k b ≡ Ok c → SavedRead k b c
-unfolding decodeSaved
+saved_read : (k : Kind) (b : List ℕ) (c : Saved) → decode_saved k b ≡ Ok c → SavedRead k b c
+unfolding decode_saved
 saved_read k b c e =
-    let r = drop (frontLength b) b in
-    let a = andThen-ok (decode k (take (frontLength b) b)) (λ m. withRows m r) c e in
+    let r = drop (front_length b) b in
+    let a = and_then_ok (decode k (take (front_length b) b)) (λ m. with_rows_of m r) c e in
     let h = a.0.head in
-    let u = unless-ok (eqb (length r) (rowsLength h.n) && rowsHold h.sender h.timestamp (rows_at h.n r)) 0 _ c a.2 in
-    let t = and_parts (eqb (length r) (rowsLength h.n)) _ u.0 in
+    let u = unless_ok (eqb (length r) (rows_length h.n) && rows_all_hold h.sender h.timestamp (rows_at h.n r)) 0 _ c a.2 in
+    let t = and_parts (eqb (length r) (rows_length h.n)) _ u.0 in
     record { message = a.0; front = a.1; square = eqb-true _ _ t.0; hold = t.1; same = cc u.1 }
 
-pub sole-spelling : Sole-spelling
-unfolding encodeSaved
-sole-spelling k b c y e =
-    let f = frontLength b in
+pub sole_spelling : SoleSpelling
+unfolding encode_saved
+sole_spelling k b c y e =
+    let f = front_length b in
     let r = saved_read k b c e in
     let m = r.message in
     let front = bytes_take f b y in
-    let sound = (gossip.reads-sound k (take f b) m front r.front).0 in
-    let most = (head-parts m.head (parts m sound).head).most in
-    let spelled = sym (gossip.sole-spelling k (take f b) m front r.front) in
-    let rows = rowsAt-spelled m.head.n most (drop f b) (bytes_drop f b y) r.square in
-    let s : encodeSaved k record { message = m; rows = rows_at m.head.n (drop f b) } ≡ b = (λ i. spelled i ++ rows i) ∙ take-append-drop f b in
-    sym s ∙ ap (encodeSaved k) r.same
+    let sound = (gossip.reads_sound k (take f b) m front r.front).0 in
+    let most = (head_to_parts m.head (parts m sound).head).most in
+    let spelled = sym (gossip.sole_spelling k (take f b) m front r.front) in
+    let rows = rows_at-spelled m.head.n most (drop f b) (bytes_drop f b y) r.square in
+    let s : encode_saved k record { message = m; rows = rows_at m.head.n (drop f b) } ≡ b = (λ i. spelled i ++ rows i) ∙ take-append-drop f b in
+    sym s ∙ ap (encode_saved k) r.same
 
-pub reads-sound : Reads-sound
-reads-sound k b c y e =
-    let f = frontLength b in
+pub reads_sound : ReadsSound
+reads_sound k b c y e =
+    let f = front_length b in
     let r = saved_read k b c e in
     let h = r.message.head in
-    let m = gossip.reads-sound k (take f b) r.message (bytes_take f b y) r.front in
-    let most = (head-parts h (parts r.message m.0).head).most in
-    let rows = rowsAt-sound h.n most (drop f b) (bytes_drop f b y) r.square h.sender h.timestamp ∙ r.hold in
-    (ap soundSaved (sym r.same) ∙ and_from _ _ m.0 rows, ap (λ (x : Saved). ofKind k x.message) (sym r.same) ∙ m.1)
+    let m = gossip.reads_sound k (take f b) r.message (bytes_take f b y) r.front in
+    let most = (head_to_parts h (parts r.message m.0).head).most in
+    let rows = rows_at-sound h.n most (drop f b) (bytes_drop f b y) r.square h.sender h.timestamp ∙ r.hold in
+    (ap sound_saved (sym r.same) ∙ and_from _ _ m.0 rows, ap (λ (x : Saved). of_kind k x.message) (sym r.same) ∙ m.1)

@@ -4,19 +4,19 @@ use Rattle.std.proofs.lemmas.List.{take_all, drop_all}
 use Rattle.std.proofs.lemmas.Bool.{eq-eqb, cases_lt}
 use Rattle.gossip.specs.Format.{decode}
 use Rattle.gossip.specs.Lattices.{Kind}
-use Rattle.gossip.specs.Messages.{Message, sound, ofKind}
+use Rattle.gossip.specs.Messages.{Message, sound, of_kind}
 use Rattle.gossip.specs.Numbers.{Bytes}
 use Rattle.gossip.specs.Refusals.{and_then, unless}
 use Rattle.gossip.specs.declared.timestamp.Timestamp.{Timestamp}
-use Rattle.gossip.proofs.Sound.{parts, head-parts}
-use Rattle.checkpoint.specs.Checkpoints.{Saved, rowsHold}
-use Rattle.checkpoint.specs.Contents.{saved, joinedTo}
-use Rattle.checkpoint.specs.Format.{decodeSaved, encodeSaved, frontLength, rows_at, rowsLength, withRows}
+use Rattle.gossip.proofs.Sound.{parts, head_to_parts}
+use Rattle.checkpoint.specs.Checkpoints.{Saved, rows_all_hold}
+use Rattle.checkpoint.specs.Contents.{saved, joined_to}
+use Rattle.checkpoint.specs.Format.{decode_saved, encode_saved, front_length, rows_at, rows_length, with_rows_of}
 use Rattle.checkpoint.specs.Refusals.{outcome}
 use Rattle.checkpoint.specs.declared.checkpoint.Checkpoint.{Checkpoint}
 use Rattle.checkpoint.specs.declared.unreadable.Unreadable.{Unreadable}
-use Rattle.checkpoint.proofs.FormatTheorems.{sole-spelling, reads-sound}
-use Rattle.checkpoint.proofs.RowBytes.{rowsAt-sound}
+use Rattle.checkpoint.proofs.FormatTheorems.{sole_spelling, reads_sound}
+use Rattle.checkpoint.proofs.RowBytes.{rows_at-sound}
 
 -- cut at a length, or at all that there is
 cut : (s k : ℕ) (b : List ℕ) → k ≡ min s (length b) → (take k b ≡ take s b) × (drop k b ≡ drop s b)
@@ -27,36 +27,36 @@ cut s k b e = by_length (cases_lt s (length b))
     by_length (inr h) = (take_all k b (omega arith) ∙ sym (take_all s b h), drop_all k b (omega arith) ∙ sym (drop_all s b h))
 
 -- bytes that are cut where the head says
-module _ (k : Kind) (b : List ℕ) {at : ℕ} {front rest : List ℕ} (len : at ≡ min (frontLength b) (length b)) (fronts : front ≡ take at b) (rests : rest ≡ drop at b) where
-  decoded : and_then (decode k front) (λ m. withRows m rest) ≡ decodeSaved k b
-  unfolding decodeSaved
+module _ (k : Kind) (b : List ℕ) {at : ℕ} {front rest : List ℕ} (len : at ≡ min (front_length b) (length b)) (fronts : front ≡ take at b) (rests : rest ≡ drop at b) where
+  decoded : and_then (decode k front) (λ m. with_rows_of m rest) ≡ decode_saved k b
+  unfolding decode_saved
   decoded =
-      let c = cut (frontLength b) at b len in
+      let c = cut (front_length b) at b len in
       let f = fronts ∙ c.0 in
       let r = rests ∙ c.1 in
-      λ i. and_then (decode k (f i)) (λ m. withRows m (r i))
+      λ i. and_then (decode k (f i)) (λ m. with_rows_of m (r i))
 
-  pub message-refused : (e : ℕ) → Err e ≡ decode k front → Err e ≡ decodeSaved k b
-  message-refused e h = ap (λ z. and_then z (λ m. withRows m rest)) h ∙ decoded
+  pub message_refused : (e : ℕ) → Err e ≡ decode k front → Err e ≡ decode_saved k b
+  message_refused e h = ap (λ z. and_then z (λ m. with_rows_of m rest)) h ∙ decoded
 
-  pub message-read : (m : Message) (x : Result Saved ℕ) → Ok m ≡ decode k front → x ≡ withRows m rest → x ≡ decodeSaved k b
-  message-read m x h e = e ∙ ap (λ z. and_then z (λ m. withRows m rest)) h ∙ decoded
+  pub message_read : (m : Message) (x : Result Saved ℕ) → Ok m ≡ decode k front → x ≡ with_rows_of m rest → x ≡ decode_saved k b
+  message_read m x h e = e ∙ ap (λ z. and_then z (λ m. with_rows_of m rest)) h ∙ decoded
 
 -- rows that are read are joined to the message where they hold
-pub rows-joined : (m : Message) (b : List ℕ) (rows : List Timestamp) → sound m ≡ true → Bytes b → length b ≡ rowsLength m.head.n → rows ≡ rows_at m.head.n b → joinedTo m rows ≡ withRows m b
-rows-joined m b rows s y l e =
+pub rows_joined : (m : Message) (b : List ℕ) (rows : List Timestamp) → sound m ≡ true → Bytes b → length b ≡ rows_length m.head.n → rows ≡ rows_at m.head.n b → joined_to m rows ≡ with_rows_of m b
+rows_joined m b rows s y l e =
     let h = m.head in
-    let most = (head-parts h (parts m s).head).most in
-    let hold = rowsHold h.sender h.timestamp (rows_at h.n b) in
-    let t = rowsAt-sound h.n most b y l h.sender h.timestamp ∙ sym (ap (λ x. x && hold) (eq-eqb (length b) (rowsLength h.n) l)) in
-    ap (joinedTo m) e ∙ ap (λ x. unless x 0 (Ok record { message = m; rows = rows_at h.n b })) t
+    let most = (head_to_parts h (parts m s).head).most in
+    let hold = rows_all_hold h.sender h.timestamp (rows_at h.n b) in
+    let t = rows_at-sound h.n most b y l h.sender h.timestamp ∙ sym (ap (λ x. x && hold) (eq-eqb (length b) (rows_length h.n) l)) in
+    ap (joined_to m) e ∙ ap (λ x. unless x 0 (Ok record { message = m; rows = rows_at h.n b })) t
 
 -- what the theorems say of a checkpoint that was read
 module _ (k : Kind) (b : List ℕ) (bytes : Bytes b) where
-  pub spelled : (r : Result Checkpoint Unreadable) → outcome saved r ≡ decodeSaved k b → IfOk r (λ c. b ≡ encodeSaved k (saved c))
-  spelled (Ok c) e = sole-spelling k b (saved c) bytes (sym e)
+  pub spelled : (r : Result Checkpoint Unreadable) → outcome saved r ≡ decode_saved k b → IfOk r (λ c. b ≡ encode_saved k (saved c))
+  spelled (Ok c) e = sole_spelling k b (saved c) bytes (sym e)
   spelled (Err x) e = tt
 
-  pub of-kind : (r : Result Checkpoint Unreadable) → outcome saved r ≡ decodeSaved k b → IfOk r (λ c. ofKind k (saved c).message ≡ true)
-  of-kind (Ok c) e = (reads-sound k b (saved c) bytes (sym e)).1
-  of-kind (Err x) e = tt
+  pub of_kind_lem : (r : Result Checkpoint Unreadable) → outcome saved r ≡ decode_saved k b → IfOk r (λ c. of_kind k (saved c).message ≡ true)
+  of_kind_lem (Ok c) e = (reads_sound k b (saved c) bytes (sym e)).1
+  of_kind_lem (Err x) e = tt

@@ -1,36 +1,36 @@
 -- The checkpoint as bytes: a gossip message, and behind it n rows of n parts, four bytes each.
 --
--- rowsLength n       bytes of n rows of n parts
--- frontLength b      how long the head says that the message is
+-- rows_length n       bytes of n rows of n parts
+-- front_length b      how long the head says that the message is
 -- rows_at n b         the n rows that bytes spell, and zeros for the replicas that the group has not
--- decodeSaved k b    the checkpoint of the kind k that bytes spell; or the number of the first rule that its message breaks, which is
+-- decode_saved k b    the checkpoint of the kind k that bytes spell; or the number of the first rule that its message breaks, which is
 --                    read from as many bytes as its head says, or from all where there are fewer; or 0 for the rows or the length
--- encodeSaved k c    the bytes of a checkpoint of the kind k
+-- encode_saved k c    the bytes of a checkpoint of the kind k
 use Rattle.std.specs.Prelude.{ℕ, ◌-◌, ◌*◌, ◌&&◌, List, ◌++◌, map, length, take, drop, replicate, Ok, Result, ◌==◌, slice_index}
-use Rattle.gossip.specs.Format.{decode, encode, encodeTimestamp, messageLength, timestampAt}
+use Rattle.gossip.specs.Format.{decode, encode, encode_timestamp, message_length, timestamp_at}
 use Rattle.gossip.specs.Lattices.{Kind}
 use Rattle.gossip.specs.Messages.{Message}
 use Rattle.gossip.specs.Numbers.{field, pieces, joined}
 use Rattle.gossip.specs.Refusals.{unless, and_then}
 use Rattle.gossip.specs.declared.timestamp.Timestamp.{Timestamp}
-use Rattle.checkpoint.specs.Checkpoints.{Saved, zero, rowsHold}
+use Rattle.checkpoint.specs.Checkpoints.{Saved, zero, rows_all_hold}
 
-abbrev pub rowsLength : ℕ → ℕ
-rowsLength n = n * (4 * n)
+abbrev pub rows_length : ℕ → ℕ
+rows_length n = n * (4 * n)
 
-abbrev pub frontLength : List ℕ → ℕ
-frontLength b = messageLength (slice_index b 2) (field 8 2 b)
+abbrev pub front_length : List ℕ → ℕ
+front_length b = message_length (slice_index b 2) (field 8 2 b)
 
 abbrev pub rows_at : ℕ → List ℕ → List Timestamp
-rows_at n b = map (timestampAt n) (pieces (4 * n) n b) ++ replicate (7 - n) zero
+rows_at n b = map (timestamp_at n) (pieces (4 * n) n b) ++ replicate (7 - n) zero
 
-abbrev pub withRows : Message → List ℕ → Result Saved ℕ
-withRows m b =
-    unless (length b == rowsLength m.head.n && rowsHold m.head.sender m.head.timestamp (rows_at m.head.n b)) 0
+abbrev pub with_rows_of : Message → List ℕ → Result Saved ℕ
+with_rows_of m b =
+    unless (length b == rows_length m.head.n && rows_all_hold m.head.sender m.head.timestamp (rows_at m.head.n b)) 0
     (Ok (record { message = m; rows = rows_at m.head.n b }))
 
-unfoldable pub decodeSaved : Kind → List ℕ → Result Saved ℕ
-decodeSaved k b = and_then (decode k (take (frontLength b) b)) (λ m. withRows m (drop (frontLength b) b))
+unfoldable pub decode_saved : Kind → List ℕ → Result Saved ℕ
+decode_saved k b = and_then (decode k (take (front_length b) b)) (λ m. with_rows_of m (drop (front_length b) b))
 
-unfoldable pub encodeSaved : Kind → Saved → List ℕ
-encodeSaved k c = encode k c.message ++ joined (encodeTimestamp c.message.head.n) (take c.message.head.n c.rows)
+unfoldable pub encode_saved : Kind → Saved → List ℕ
+encode_saved k c = encode k c.message ++ joined (encode_timestamp c.message.head.n) (take c.message.head.n c.rows)

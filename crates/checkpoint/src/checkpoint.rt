@@ -1,7 +1,7 @@
 // The checkpoint as a value of its own.
 ghost use Rattle.std.specs.Prelude.{◌≡◌, true};
 ghost use Rattle.gossip.specs.Contents.{contents};
-ghost use Rattle.checkpoint.specs.Checkpoints.{soundRows};
+ghost use Rattle.checkpoint.specs.Checkpoints.{sound_rows};
 
 use gossip::{Gossip, Timestamp};
 
@@ -12,5 +12,5 @@ mod building;
 pub struct Checkpoint {
     pub(crate) message: Gossip,
     pub(crate) rows: [Timestamp; 7],
-    ghost heard: { soundRows (contents message).head.n (contents message).head.sender (contents message).head.timestamp rows ≡ true },
+    ghost heard: { sound_rows (contents message).head.n (contents message).head.sender (contents message).head.timestamp rows ≡ true },
 }

@@ -1,9 +1,9 @@
 // Reading a checkpoint.
 ghost use Rattle.std.specs.Prelude.{◌≡◌, ◌≤◌, min, true, length, IfOk};
 ghost use Rattle.gossip.specs.Contents.{contents};
-ghost use Rattle.gossip.specs.Messages.{ofKind};
+ghost use Rattle.gossip.specs.Messages.{of_kind};
 ghost use Rattle.checkpoint.specs.Contents.{saved};
-ghost use Rattle.checkpoint.specs.Format.{decodeSaved, encodeSaved, withRows, frontLength, rows_at, rowsLength};
+ghost use Rattle.checkpoint.specs.Format.{decode_saved, encode_saved, with_rows_of, front_length, rows_at, rows_length};
 ghost use Rattle.checkpoint.specs.Refusals.{outcome};
 
 use crate::checkpoint::Checkpoint;
@@ -16,9 +16,9 @@ const FRONT: usize = 24;
 impl Checkpoint {
     // The checkpoint of the lattice's kind that the bytes spell, or why they spell none.
     pub fn read<L: Lattice>(bytes: &[u8]) -> Result<Checkpoint, Unreadable>
-        ensures answer { outcome saved result ≡ decodeSaved kind bytes.now }
-        ensures spelling { IfOk result (λ c. bytes.now ≡ encodeSaved kind (saved c)) }
-        ensures kind { IfOk result (λ c. ofKind kind (saved c).message ≡ true) }
+        ensures answer { outcome saved result ≡ decode_saved kind bytes.now }
+        ensures spelling { IfOk result (λ c. bytes.now ≡ encode_saved kind (saved c)) }
+        ensures kind { IfOk result (λ c. of_kind kind (saved c).message ≡ true) }
     {
         let (front, rest) = bytes.split_at(front_len(bytes));
         match Gossip::read::<L>(front) {
@@ -30,7 +30,7 @@ impl Checkpoint {
 
 // How long the head says that the message is, or all bytes where there are fewer.
 fn front_len(bytes: &[u8]) -> usize
-    ensures { result ≡ min (frontLength bytes.now) (length bytes.now) }
+    ensures { result ≡ min (front_length bytes.now) (length bytes.now) }
 {
     if bytes.len() < FRONT {
         return bytes.len();
@@ -43,7 +43,7 @@ fn front_len(bytes: &[u8]) -> usize
 
 // The checkpoint of a message and the rows that the bytes spell. The rows past the n-th are zeros, so it is refused only where the others do not hold.
 fn with_rows(message: Gossip, bytes: &[u8]) -> Result<Checkpoint, Unreadable>
-    ensures { outcome saved result ≡ withRows (contents message) bytes.now }
+    ensures { outcome saved result ≡ with_rows_of (contents message) bytes.now }
 {
     let n = message.head().n;
     if bytes.len() != n * (4 * n) {
@@ -55,7 +55,7 @@ fn with_rows(message: Gossip, bytes: &[u8]) -> Result<Checkpoint, Unreadable>
 // The n rows that bytes spell, and zeros behind them. No row is refused, since each piece has exactly n parts.
 fn read_rows(n: usize, bytes: &[u8]) -> [Timestamp; 7]
     requires few { n ≤ 7 }
-    requires square { length bytes.now ≡ rowsLength n }
+    requires square { length bytes.now ≡ rows_length n }
     ensures { result ≡ rows_at n bytes.now }
 {
     let size = 4 * n;

@@ -1,10 +1,10 @@
 // Writing a checkpoint.
 ghost use Rattle.std.specs.Prelude.{◌≡◌, ◌+◌, ◌*◌, ◌≤◌, true, length, take, Ok};
-ghost use Rattle.gossip.specs.Format.{encodeTimestamp};
-ghost use Rattle.gossip.specs.Messages.{ofKind};
+ghost use Rattle.gossip.specs.Format.{encode_timestamp};
+ghost use Rattle.gossip.specs.Messages.{of_kind};
 ghost use Rattle.gossip.specs.Numbers.{joined, put_at};
 ghost use Rattle.checkpoint.specs.Contents.{saved};
-ghost use Rattle.checkpoint.specs.Format.{decodeSaved, encodeSaved};
+ghost use Rattle.checkpoint.specs.Format.{decode_saved, encode_saved};
 
 use crate::checkpoint::Checkpoint;
 use gossip::{Lattice, ROOM, Timestamp};
@@ -13,9 +13,9 @@ impl Checkpoint {
     // Writes the checkpoint, as one of the lattice's kind, to the front of the bytes and leaves the rest. The answer is its length.
     // The values of its message are not looked at, so it reads back exactly where they are of the kind: for callers that know that they are.
     pub fn write<L: Lattice>(&self, out: &mut [u8; ROOM]) -> usize
-        ensures answer { result ≡ length (encodeSaved kind (saved self.now)) }
-        ensures buffer { out.new ≡ put_at 0 (encodeSaved kind (saved self.now)) out.old }
-        ensures back { ofKind kind (saved self.now).message ≡ true → decodeSaved kind (take result out.new) ≡ Ok (saved self.now) }
+        ensures answer { result ≡ length (encode_saved kind (saved self.now)) }
+        ensures buffer { out.new ≡ put_at 0 (encode_saved kind (saved self.now)) out.old }
+        ensures back { of_kind kind (saved self.now).message ≡ true → decode_saved kind (take result out.new) ≡ Ok (saved self.now) }
     {
         let at = self.message.spell::<L>(out);
         let n = self.message.head().n;
@@ -29,8 +29,8 @@ fn put_rows(out: &mut [u8], at: usize, n: usize, rows: &[Timestamp])
     requires some { 1 ≤ n }
     requires few { n ≤ 7 }
     requires within { at + length rows.now * (4 * n) ≤ length out.old }
-    ensures written { out.new ≡ put_at at (joined (encodeTimestamp n) rows.now) out.old }
-    ensures long { length (joined (encodeTimestamp n) rows.now) ≡ length rows.now * (4 * n) }
+    ensures written { out.new ≡ put_at at (joined (encode_timestamp n) rows.now) out.old }
+    ensures long { length (joined (encode_timestamp n) rows.now) ≡ length rows.now * (4 * n) }
 {
     let size = 4 * n;
     for i in 0..rows.len() {
@@ -43,8 +43,8 @@ fn put_row(out: &mut [u8], at: usize, n: usize, row: &Timestamp)
     requires some { 1 ≤ n }
     requires few { n ≤ 7 }
     requires within { at + 4 * n ≤ length out.old }
-    ensures written { out.new ≡ put_at at (encodeTimestamp n row.now) out.old }
-    ensures long { length (encodeTimestamp n row.now) ≡ 4 * n }
+    ensures written { out.new ≡ put_at at (encode_timestamp n row.now) out.old }
+    ensures long { length (encode_timestamp n row.now) ≡ 4 * n }
 {
     row.write_bytes(n, &mut out[at..at + 4 * n]).unwrap();
 }

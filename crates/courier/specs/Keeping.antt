@@ -1,8 +1,8 @@
 -- What is saved once a message is kept.
 --
--- keptFor n bs saved    the bytes of a message are saved for the number n; no bytes change nothing
+-- kept_for n bs saved    the bytes of a message are saved for the number n; no bytes change nothing
 use Rattle.std.specs.Prelude.{ℕ, List, [], ◌∷◌, slice_set}
 
-abbrev pub keptFor : ℕ → List ℕ → List (List ℕ) → List (List ℕ)
-keptFor n [] saved = saved
-keptFor n (b ∷ bs) saved = slice_set saved n (b ∷ bs)
+abbrev pub kept_for : ℕ → List ℕ → List (List ℕ) → List (List ℕ)
+kept_for n [] saved = saved
+kept_for n (b ∷ bs) saved = slice_set saved n (b ∷ bs)

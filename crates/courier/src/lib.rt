@@ -2,8 +2,8 @@
 ghost use Rattle.std.specs.Prelude.{◌≡◌, [], length, if◌then◌else◌, Ok, Err, nat_le, slice_index_or};
 ghost use Rattle.storage.specs.declared.refusals.Refusal.TheVariants.{Number};
 ghost use Rattle.transport.specs.Parcels.{parcel, Kept, Posted};
-ghost use Rattle.transport.specs.Refusals.{postAnswer, taken};
-ghost use Rattle.courier.specs.Keeping.{keptFor};
+ghost use Rattle.transport.specs.Refusals.{post_answer, taken};
+ghost use Rattle.courier.specs.Keeping.{kept_for};
 
 use storage::{LAST_NUMBER, MAX_BYTES, Store};
 use transport::{MOST_BYTES, Transport};
@@ -16,7 +16,7 @@ pub fn send<S: Store, T: Transport>(
     to: usize,
     reading: u64,
 ) -> Result<(), transport::Refusal>
-    ensures answer { result ≡ postAnswer (T.Transport.isOpen mail.old to reading) (T.Transport.longest mail.old) (length (slice_index_or (S.Store.saved store.old) number [])) }
+    ensures answer { result ≡ post_answer (T.Transport.isOpen mail.old to reading) (T.Transport.longest mail.old) (length (slice_index_or (S.Store.saved store.old) number [])) }
     ensures lost { Posted (T.Transport.held mail.old) (taken result (parcel to (slice_index_or (S.Store.saved store.old) number []))) (T.Transport.held mail.new) }
     ensures kept { S.Store.saved store.new ≡ S.Store.saved store.old }
 {
@@ -36,7 +36,7 @@ pub fn keep<S: Store, T: Transport>(
     reading: u64,
 ) -> Result<usize, storage::Refusal>
     ensures answer { result ≡ (if nat_le number 6 then Ok (length (T.Transport.next mail.old number reading)) else Err Number) }
-    ensures after { S.Store.saved store.new ≡ keptFor number (T.Transport.next mail.old number reading) (S.Store.saved store.old) }
+    ensures after { S.Store.saved store.new ≡ kept_for number (T.Transport.next mail.old number reading) (S.Store.saved store.old) }
     ensures lost { Kept (T.Transport.held mail.old) (T.Transport.held mail.new) }
 {
     if number > LAST_NUMBER {

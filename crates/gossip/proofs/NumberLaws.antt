@@ -11,8 +11,8 @@ pub number-drop : (b : List ℕ) (i : ℕ) → i < length b → number (drop i b
 unfolding number
 number-drop b i h = rw (add-one, drop-cons b i 0 h)
 
-pub bytes-tail : (x : ℕ) (b : List ℕ) → Bytes (x ∷ b) → Bytes b
-bytes-tail x b h i = h (suc i)
+pub bytes_tail : (x : ℕ) (b : List ℕ) → Bytes (x ∷ b) → Bytes b
+bytes_tail x b h i = h (suc i)
 
 pub bytes_drop : (k : ℕ) (b : List ℕ) → Bytes b → Bytes (drop k b)
 bytes_drop k b h i = rw get_or-drop (h (k + i))
@@ -22,7 +22,7 @@ unfolding number
 number_lt [] h = omega arith
 number_lt (x ∷ b) h =
     let p : x < 256 = h 0 in
-    let q : number b < 256 ^ length b = number_lt b (bytes-tail x b h) in
+    let q : number b < 256 ^ length b = number_lt b (bytes_tail x b h) in
     let e : 256 ^ suc (length b) ≡ 256 ^ length b * 256 = pow-suc 256 (length b) in
     omega arith
 
@@ -49,7 +49,7 @@ bytes-number (x ∷ b) h =
     let p : x < 256 = h 0 in
     let m : (x + 256 * number b) % 256 ≡ x = omega arith in
     let d : (x + 256 * number b) / 256 ≡ number b = omega arith in
-    rw (m, d) (ap (λ t. x ∷ t) (bytes-number b (bytes-tail x b h)))
+    rw (m, d) (ap (λ t. x ∷ t) (bytes-number b (bytes_tail x b h)))
 
 pub number_small : (b : List ℕ) (k : ℕ) → Bytes b → length b ≤ k → number b < 256 ^ k
 number_small b k h l =
@@ -58,14 +58,14 @@ number_small b k h l =
     omega arith
 
 -- one byte more written
-pub written-more : (out : List ℕ) (i k r : ℕ) (all : List ℕ) → i < length out
+pub written_more : (out : List ℕ) (i k r : ℕ) (all : List ℕ) → i < length out
     → take i out ++ bytes (suc k) r ≡ all → take (i + 1) (set out i (r % 256)) ++ bytes k (r / 256) ≡ all
 unfolding bytes
-written-more out i k r all h e = rw (take_more_set out i (r % 256) h, append_assoc) e
+written_more out i k r all h e = rw (take_more_set out i (r % 256) h, append_assoc) e
 
 -- what is left of at most k + 1 bytes past the first of them
-pub number-drop-small : (b : List ℕ) (i k : ℕ) → Bytes b → length b - i ≤ k → number (drop i b) < 256 ^ k
-number-drop-small b i k h l =
+pub number-drop_small : (b : List ℕ) (i k : ℕ) → Bytes b → length b - i ≤ k → number (drop i b) < 256 ^ k
+number-drop_small b i k h l =
     let m : length (drop i b) ≤ k = simp length-drop (omega arith) in
     number_small (drop i b) k (bytes_drop i b h) m
 
@@ -80,7 +80,7 @@ pub bytes_take : (k : ℕ) (b : List ℕ) → Bytes b → Bytes (take k b)
 bytes_take zero b h i = omega arith
 bytes_take (suc k) [] h i = omega arith
 bytes_take (suc k) (x ∷ b) h zero = h 0
-bytes_take (suc k) (x ∷ b) h (suc i) = bytes_take k b (bytes-tail x b h) i
+bytes_take (suc k) (x ∷ b) h (suc i) = bytes_take k b (bytes_tail x b h) i
 
 pub field_below : (at w k : ℕ) (b : List ℕ) → Bytes b → w ≤ k → field at w b < 256 ^ k
 field_below at w k b h v =
@@ -91,14 +91,14 @@ pub field_lt : (at w : ℕ) (b : List ℕ) → Bytes b → field at w b < 256 ^ 
 field_lt at w b h = field_below at w w b h (omega arith)
 
 -- a field of one byte is that byte
-pub field-one : (at : ℕ) (b : List ℕ) → at < length b → field at 1 b ≡ get_or b at 0
+pub field_one : (at : ℕ) (b : List ℕ) → at < length b → field at 1 b ≡ get_or b at 0
 unfolding number
-field-one at b h = rw (drop-cons b at 0 h) (omega arith)
+field_one at b h = rw (drop-cons b at 0 h) (omega arith)
 
 -- and one of two bytes has the higher byte behind the lower
-pub field-two : (at : ℕ) (b : List ℕ) → suc at < length b → field at 2 b ≡ get_or b at 0 + 256 * get_or b (suc at) 0
+pub field_two : (at : ℕ) (b : List ℕ) → suc at < length b → field at 2 b ≡ get_or b at 0 + 256 * get_or b (suc at) 0
 unfolding number
-field-two at b h =
+field_two at b h =
     let l : at < length b = omega arith in
     rw (drop-cons b at 0 l, drop-cons b (suc at) 0 h) (omega arith)
 
@@ -126,8 +126,8 @@ pieces_more s (suc k) b =
     let f : suc k + 1 ≡ suc (k + 1) = omega arith in
     rw f (ap (λ t. take s b ∷ t) (r ∙ ap (λ j. pieces s k (drop s b) ++ take s j ∷ []) (drop-drop (k * s) s b ∙ ap (λ j. drop j b) e)))
 
-pub counters-more : (k : ℕ) (b : List ℕ) → counters (k + 1) b ≡ counters k b ++ field (k * 4) 4 b ∷ []
-counters-more k b = ap (map number) (pieces_more 4 k b) ∙ map_push number (pieces 4 k b) (take 4 (drop (k * 4) b))
+pub counters_more : (k : ℕ) (b : List ℕ) → counters (k + 1) b ≡ counters k b ++ field (k * 4) 4 b ∷ []
+counters_more k b = ap (map number) (pieces_more 4 k b) ∙ map_push number (pieces 4 k b) (take 4 (drop (k * 4) b))
 
 pub length-counters : (k : ℕ) (b : List ℕ) → length (counters k b) ≡ k
 length-counters k b = length-map (pieces 4 k b) number ∙ length-pieces 4 k b
@@ -137,16 +137,16 @@ four [] = tt
 four (x ∷ xs) = (length-bytes 4 x, four xs)
 
 -- piece i of k pieces lies within them
-pub piece-within : (i k s : ℕ) → i < k → i * s + s ≤ k * s
-piece-within i k s h =
+pub piece_within : (i k s : ℕ) → i < k → i * s + s ≤ k * s
+piece_within i k s h =
     let e : suc i * s ≡ i * s + s = suc-mul i s in
     let m : suc i * s ≤ k * s = mul-le-mul_right s h in
     omega arith
 
 -- what is read of each piece
 module _ (f : List ℕ → ℕ) (s k : ℕ) (b : List ℕ) where
-  pub length-read : length (map f (pieces s k b)) ≡ k
-  length-read = length-map (pieces s k b) f ∙ length-pieces s k b
+  pub length_read : length (map f (pieces s k b)) ≡ k
+  length_read = length-map (pieces s k b) f ∙ length-pieces s k b
 
   pub read_at : (i : ℕ) (p : List ℕ) → i < k → p ≡ get_or (pieces s k b) i p → get_or (map f (pieces s k b)) i 0 ≡ f p
   read_at i p h e =

@@ -7,12 +7,12 @@ use Rattle.gossip.specs.Numbers.{bytes, spell, total, put_at, joined}
 use Rattle.gossip.proofs.NumberLaws.{length-bytes}
 
 -- nothing written
-pub put-none : (at : ℕ) (o : List ℕ) → put_at at [] o ≡ o
-put-none at o = rw add-zero (take-append-drop at o)
+pub put_none : (at : ℕ) (o : List ℕ) → put_at at [] o ≡ o
+put_none at o = rw add-zero (take-append-drop at o)
 
 -- ys written behind xs
-pub put-more : (at : ℕ) (xs ys o : List ℕ) (k : ℕ) → at + length xs ≡ k → k ≤ length o → put_at k ys (put_at at xs o) ≡ put_at at (xs ++ ys) o
-put-more at xs ys o k e l =
+pub put_more : (at : ℕ) (xs ys o : List ℕ) (k : ℕ) → at + length xs ≡ k → k ≤ length o → put_at k ys (put_at at xs o) ≡ put_at at (xs ++ ys) o
+put_more at xs ys o k e l =
     let a = length-take-le at o (omega arith) in
     let p : length (take at o ++ xs) ≡ k = simp length-append (omega arith) in
     let q : put_at at xs o ≡ (take at o ++ xs) ++ drop k o = ap (λ j. take at o ++ (xs ++ drop j o)) e ∙ sym (append_assoc (take at o) xs (drop k o)) in
@@ -26,7 +26,7 @@ put-more at xs ys o k e l =
 
 -- the same of what two writes left
 pub put_then : (at k : ℕ) (xs ys o o₁ o₂ : List ℕ) → at + length xs ≡ k → k ≤ length o → o₁ ≡ put_at at xs o → o₂ ≡ put_at k ys o₁ → o₂ ≡ put_at at (xs ++ ys) o
-put_then at k xs ys o o₁ o₂ e l p q = q ∙ ap (put_at k ys) p ∙ put-more at xs ys o k e l
+put_then at k xs ys o o₁ o₂ e l p q = q ∙ ap (put_at k ys) p ∙ put_more at xs ys o k e l
 
 -- what is written to the front can be taken from there
 pub take_put : (k : ℕ) (xs o out : List ℕ) → length xs ≡ k → out ≡ put_at 0 xs o → take k out ≡ xs
@@ -39,11 +39,11 @@ put_whole xs o l =
     ap (λ z. xs ++ z) d ∙ append-nil xs
 
 -- widths and numbers, one more of each
-pub total-more : (ws : List ℕ) (i : ℕ) → i < length ws → total (take (i + 1) ws) ≡ total (take i ws) + get_or ws i 0
-total-more [] i h = absurd (omega arith)
-total-more (w ∷ ws) zero h = omega arith
-total-more (w ∷ ws) (suc i) h =
-    let r = total-more ws i (omega arith) in
+pub total_more : (ws : List ℕ) (i : ℕ) → i < length ws → total (take (i + 1) ws) ≡ total (take i ws) + get_or ws i 0
+total_more [] i h = absurd (omega arith)
+total_more (w ∷ ws) zero h = omega arith
+total_more (w ∷ ws) (suc i) h =
+    let r = total_more ws i (omega arith) in
     let e : suc i + 1 ≡ suc (i + 1) = omega arith in
     rw e (omega arith)
 
@@ -53,19 +53,19 @@ total-take [] (suc i) = omega arith
 total-take (w ∷ ws) (suc i) = let r = total-take ws i in omega arith
 
 -- the i-th of them ends within them all
-pub total-within : (ws : List ℕ) (i : ℕ) → i < length ws → total (take i ws) + get_or ws i 0 ≤ total ws
-total-within ws i h =
-    let a = total-more ws i h in
+pub total_within : (ws : List ℕ) (i : ℕ) → i < length ws → total (take i ws) + get_or ws i 0 ≤ total ws
+total_within ws i h =
+    let a = total_more ws i h in
     let b = total-take ws (i + 1) in
     omega arith
 
-pub spell-more : (ws vs : List ℕ) (i : ℕ) → i < length ws → i < length vs → spell (take (i + 1) ws) (take (i + 1) vs) ≡ spell (take i ws) (take i vs) ++ bytes (get_or ws i 0) (get_or vs i 0)
+pub spell_more : (ws vs : List ℕ) (i : ℕ) → i < length ws → i < length vs → spell (take (i + 1) ws) (take (i + 1) vs) ≡ spell (take i ws) (take i vs) ++ bytes (get_or ws i 0) (get_or vs i 0)
 unfolding spell
-spell-more [] vs i h k = absurd (omega arith)
-spell-more (w ∷ ws) [] i h k = absurd (omega arith)
-spell-more (w ∷ ws) (v ∷ vs) zero h k = append-nil (bytes w v)
-spell-more (w ∷ ws) (v ∷ vs) (suc i) h k =
-    let r = spell-more ws vs i (omega arith) (omega arith) in
+spell_more [] vs i h k = absurd (omega arith)
+spell_more (w ∷ ws) [] i h k = absurd (omega arith)
+spell_more (w ∷ ws) (v ∷ vs) zero h k = append-nil (bytes w v)
+spell_more (w ∷ ws) (v ∷ vs) (suc i) h k =
+    let r = spell_more ws vs i (omega arith) (omega arith) in
     let e : suc i + 1 ≡ suc (i + 1) = omega arith in
     rw (e, append_assoc) (ap (λ t. bytes w v ++ t) r)
 
@@ -79,14 +79,14 @@ length-spell (w ∷ ws) (v ∷ vs) h =
     simp length-append (omega arith)
 
 -- a write to a part, as the checker reads it
-pub put-mid : (at k : ℕ) (o ys : List ℕ) → length ys ≡ k → put_mid at k o ys ≡ put_at at ys o
-put-mid at k o ys l = ap (λ z. take at o ++ (ys ++ z)) (drop-drop k at o ∙ ap (λ j. drop (at + j) o) (sym l))
+pub put_mid-put_at : (at k : ℕ) (o ys : List ℕ) → length ys ≡ k → put_mid at k o ys ≡ put_at at ys o
+put_mid-put_at at k o ys l = ap (λ z. take at o ++ (ys ++ z)) (drop-drop k at o ∙ ap (λ j. drop (at + j) o) (sym l))
 
-pub joined-push : {X : Type 0} (f : X → List ℕ) (xs : List X) (i : ℕ) (d : X) → i < length xs → joined f (take (i + 1) xs) ≡ joined f (take i xs) ++ f (get_or xs i d)
+pub joined_push : {X : Type 0} (f : X → List ℕ) (xs : List X) (i : ℕ) (d : X) → i < length xs → joined f (take (i + 1) xs) ≡ joined f (take i xs) ++ f (get_or xs i d)
 unfolding joined
-joined-push f [] i d h = absurd (omega arith)
-joined-push f (x ∷ xs) zero d h = append-nil (f x)
-joined-push f (x ∷ xs) (suc i) d h =
-    let r = joined-push f xs i d (omega arith) in
+joined_push f [] i d h = absurd (omega arith)
+joined_push f (x ∷ xs) zero d h = append-nil (f x)
+joined_push f (x ∷ xs) (suc i) d h =
+    let r = joined_push f xs i d (omega arith) in
     let e : suc i + 1 ≡ suc (i + 1) = omega arith in
     rw (e, append_assoc) (ap (λ t. f x ++ t) r)

@@ -3,64 +3,64 @@ use Rattle.std.proofs.Common.{◌≡◌, ℕ, suc, ◌-◌, ◌^◌, ◌<◌, �
 use native.Mathlib.Numerals.{unary_clauses}
 use Rattle.std.proofs.lemmas.List.{get_or-map, get_or-take, length-take-le, length-map, length_push, map_push}
 use Rattle.std.proofs.lemmas.Bool.{and_parts, and_from, leb-true, le-leb, ltb-true, lt-ltb}
-use Rattle.gossip.specs.Messages.{Message, rises, seats, sound, soundHead, soundEntry, wideTimestamp, wideState, allowed, origin, latest}
+use Rattle.gossip.specs.Messages.{Message, rises, seats, sound, sound_head, sound_entry, wide_timestamp, wide_state, allowed, origin, latest}
 use Rattle.gossip.specs.Numbers.{every}
-use Rattle.gossip.specs.Timestamps.{under, zeroFrom}
+use Rattle.gossip.specs.Timestamps.{under, zero_from}
 use Rattle.gossip.specs.declared.entry.Entry.{Entry}
 use Rattle.gossip.specs.declared.head.Head.{Head}
 use Rattle.gossip.specs.declared.timestamp.Timestamp.{Timestamp}
-use Rattle.gossip.proofs.Loops.{every-push}
-use Rattle.gossip.proofs.Bools.{and-true}
+use Rattle.gossip.proofs.Loops.{every_push}
+use Rattle.gossip.proofs.Bools.{and_true}
 
 -- a number behind rising ones: the last of them decides
-pub rises-push : (xs : List ℕ) (x : ℕ) → rises xs ≡ true → 0 < length xs → ltb (get_or xs (length xs - 1) 0) x ≡ rises (xs ++ x ∷ [])
-rises-push [] x e h = absurd (omega arith)
-rises-push (y ∷ []) x e h = sym (and-true (ltb y x))
-rises-push (y ∷ (z ∷ zs)) x e h =
+pub rises_push : (xs : List ℕ) (x : ℕ) → rises xs ≡ true → 0 < length xs → ltb (get_or xs (length xs - 1) 0) x ≡ rises (xs ++ x ∷ [])
+rises_push [] x e h = absurd (omega arith)
+rises_push (y ∷ []) x e h = sym (and_true (ltb y x))
+rises_push (y ∷ (z ∷ zs)) x e h =
     let a = and_parts (ltb y z) (rises (z ∷ zs)) e in
-    simp unary_clauses (rw a.0 (simp unary_clauses at (rises-push (z ∷ zs) x a.1 (omega arith))))
+    simp unary_clauses (rw a.0 (simp unary_clauses at (rises_push (z ∷ zs) x a.1 (omega arith))))
 
 -- the last of the first k entries
-pub last-seat : (es : List Entry) (k : ℕ) (d : Entry) → 0 < k → k ≤ length es → get_or (seats (take k es)) (length (seats (take k es)) - 1) 0 ≡ (get_or es (k - 1) d).seat
-last-seat es k d h l =
+pub last_seat : (es : List Entry) (k : ℕ) (d : Entry) → 0 < k → k ≤ length es → get_or (seats (take k es)) (length (seats (take k es)) - 1) 0 ≡ (get_or es (k - 1) d).seat
+last_seat es k d h l =
     let n : length (seats (take k es)) ≡ k = length-map (take k es) (λ e. e.seat) ∙ length-take-le k es l in
     let m = length-take-le k es l in
     ap (λ j. get_or (seats (take k es)) (j - 1) 0) n ∙ get_or-map (λ e. e.seat) (take k es) (k - 1) d 0 (omega arith) ∙ ap (λ (e : Entry). e.seat) (get_or-take k es (k - 1) d (omega arith))
 
 -- what is at or under a timestamp of narrow parts has narrow parts
-pub narrow-under : (w : ℕ) (s t : List ℕ) → under s t ≡ true → every (λ x. ltb x (suc w)) t ≡ true → every (λ x. ltb x (suc w)) s ≡ true
-narrow-under w [] t u e = refl
-narrow-under w (x ∷ s) [] u e =
+pub narrow_under : (w : ℕ) (s t : List ℕ) → under s t ≡ true → every (λ x. ltb x (suc w)) t ≡ true → every (λ x. ltb x (suc w)) s ≡ true
+narrow_under w [] t u e = refl
+narrow_under w (x ∷ s) [] u e =
     let a = and_parts (leb x 0) (under s []) u in
     let l = leb-true x 0 a.0 in
-    and_from (ltb x (suc w)) _ (lt-ltb x (suc w) (omega arith)) (narrow-under w s [] a.1 refl)
-narrow-under w (x ∷ s) (y ∷ t) u e =
+    and_from (ltb x (suc w)) _ (lt-ltb x (suc w) (omega arith)) (narrow_under w s [] a.1 refl)
+narrow_under w (x ∷ s) (y ∷ t) u e =
     let a = and_parts (leb x y) (under s t) u in
     let b = and_parts (ltb y (suc w)) (every (λ x. ltb x (suc w)) t) e in
     let l = leb-true x y a.0 in
     let m = ltb-true y (suc w) b.0 in
-    and_from (ltb x (suc w)) _ (lt-ltb x (suc w) (omega arith)) (narrow-under w s t a.1 b.1)
+    and_from (ltb x (suc w)) _ (lt-ltb x (suc w) (omega arith)) (narrow_under w s t a.1 b.1)
 
 -- what is at or under a wide timestamp, and has as many parts, is wide
-pub wide-beneath : (s top : Timestamp) → length s.parts ≡ length top.parts → under s.parts top.parts ≡ true → wideTimestamp top ≡ true → wideTimestamp s ≡ true
-wide-beneath s top l u w =
+pub wide_beneath : (s top : Timestamp) → length s.parts ≡ length top.parts → under s.parts top.parts ≡ true → wide_timestamp top ≡ true → wide_timestamp s ≡ true
+wide_beneath s top l u w =
     let a = and_parts (eqb (length top.parts) 7) _ w in
-    and_from _ _ (ap (λ k. eqb k 7) l ∙ a.0) (narrow-under 4294967295 s.parts top.parts u a.1)
+    and_from _ _ (ap (λ k. eqb k 7) l ∙ a.0) (narrow_under 4294967295 s.parts top.parts u a.1)
 
 -- a tombstone that is allowed beside a wide timestamp has one
-pub wide-under : (t : ℕ) (s top : Timestamp) → length s.parts ≡ length top.parts → (leb t latest && under s.parts top.parts) ≡ true → wideTimestamp top ≡ true → wideTimestamp s ≡ true
-wide-under t s top l u w = wide-beneath s top l (and_parts (leb t latest) _ u).1 w
+pub wide_under : (t : ℕ) (s top : Timestamp) → length s.parts ≡ length top.parts → (leb t latest && under s.parts top.parts) ≡ true → wide_timestamp top ≡ true → wide_timestamp s ≡ true
+wide_under t s top l u w = wide_beneath s top l (and_parts (leb t latest) _ u).1 w
 
 -- the parts of a sound message
 pub record Parts (m : Message) : Type 0 where
-  pub head : soundHead m.head ≡ true
+  pub head : sound_head m.head ≡ true
   pub few : length m.entries ≤ 64
   pub rising : rises (seats m.entries) ≡ true
-  pub each : every (soundEntry m.head.timestamp) m.entries ≡ true
+  pub each : every (sound_entry m.head.timestamp) m.entries ≡ true
 
 pub parts : (m : Message) → sound m ≡ true → Parts m
 parts m s =
-    let a = and_parts (soundHead m.head) _ s in
+    let a = and_parts (sound_head m.head) _ s in
     let b = and_parts (leb (length m.entries) 64) _ a.1 in
     let c = and_parts (rises (seats m.entries)) _ b.1 in
     record { head = a.0; few = leb-true _ 64 b.0; rising = c.0; each = c.1 }
@@ -68,14 +68,14 @@ parts m s =
 pub whole : (m : Message) → Parts m → sound m ≡ true
 whole m p = and_from _ _ p.head (and_from _ _ (le-leb _ 64 p.few) (and_from _ _ p.rising p.each))
 
-pub origin-parts : (n sender : ℕ) → origin n sender ≡ true → (1 ≤ n) × (n ≤ 7) × (sender < n)
-origin-parts n sender o =
+pub origin_parts : (n sender : ℕ) → origin n sender ≡ true → (1 ≤ n) × (n ≤ 7) × (sender < n)
+origin_parts n sender o =
     let a = and_parts (leb 1 n) _ o in
     let b = and_parts (leb n 7) _ a.1 in
     (leb-true 1 n a.0, leb-true n 7 b.0, ltb-true sender n b.1)
 
-pub origin-whole : (n sender : ℕ) → 1 ≤ n → n ≤ 7 → sender < n → origin n sender ≡ true
-origin-whole n sender some most member = and_from _ _ (le-leb 1 n some) (and_from _ _ (le-leb n 7 most) (lt-ltb sender n member))
+pub origin_whole : (n sender : ℕ) → 1 ≤ n → n ≤ 7 → sender < n → origin n sender ≡ true
+origin_whole n sender some most member = and_from _ _ (le-leb 1 n some) (and_from _ _ (le-leb n 7 most) (lt-ltb sender n member))
 
 -- the parts of a sound head
 pub record HeadParts (h : Head) : Type 0 where
@@ -84,34 +84,34 @@ pub record HeadParts (h : Head) : Type 0 where
   pub member : h.sender < h.n
   pub group : h.group < 2 ^ 32
   pub clock : h.clock ≤ latest
-  pub wide : wideTimestamp h.timestamp ≡ true
-  pub zeros : zeroFrom h.n h.timestamp.parts ≡ true
+  pub wide : wide_timestamp h.timestamp ≡ true
+  pub zeros : zero_from h.n h.timestamp.parts ≡ true
 
-pub head-parts : (h : Head) → soundHead h ≡ true → HeadParts h
-head-parts h s =
+pub head_to_parts : (h : Head) → sound_head h ≡ true → HeadParts h
+head_to_parts h s =
     let a = and_parts (origin h.n h.sender) _ s in
     let b = and_parts (ltb h.group (2 ^ 32)) _ a.1 in
     let c = and_parts (leb h.clock latest) _ b.1 in
-    let d = and_parts (wideTimestamp h.timestamp) _ c.1 in
-    let o = origin-parts h.n h.sender a.0 in
+    let d = and_parts (wide_timestamp h.timestamp) _ c.1 in
+    let o = origin_parts h.n h.sender a.0 in
     record { some = o.0; most = o.1; member = o.2; group = ltb-true _ _ b.0; clock = leb-true _ _ c.0; wide = d.0; zeros = d.1 }
 
-pub head-whole : (h : Head) → HeadParts h → soundHead h ≡ true
-head-whole h p =
-    and_from _ _ (origin-whole _ _ p.some p.most p.member)
+pub head_whole : (h : Head) → HeadParts h → sound_head h ≡ true
+head_whole h p =
+    and_from _ _ (origin_whole _ _ p.some p.most p.member)
     (and_from _ _ (lt-ltb _ _ p.group) (and_from _ _ (le-leb _ _ p.clock) (and_from _ _ p.wide p.zeros)))
 
-pub entry-parts : (top : Timestamp) (e : Entry) → soundEntry top e ≡ true → (e.seat < 2 ^ 64) × (wideState e.state ≡ true) × (allowed top e.state ≡ true)
-entry-parts top e s =
+pub entry_to_parts : (top : Timestamp) (e : Entry) → sound_entry top e ≡ true → (e.seat < 2 ^ 64) × (wide_state e.state ≡ true) × (allowed top e.state ≡ true)
+entry_to_parts top e s =
     let a = and_parts (ltb e.seat (2 ^ 64)) _ s in
-    let b = and_parts (wideState e.state) _ a.1 in
+    let b = and_parts (wide_state e.state) _ a.1 in
     (ltb-true _ (2 ^ 64) a.0, b.0, b.1)
 
 -- one sound entry more, behind the others
-pub sound-push : (h : Head) (es : List Entry) (e : Entry) → sound record { head = h; entries = es } ≡ true → length es < 64
-    → rises (seats es ++ e.seat ∷ []) ≡ true → soundEntry h.timestamp e ≡ true → sound record { head = h; entries = es ++ e ∷ [] } ≡ true
-sound-push h es e s l r f =
+pub sound_push : (h : Head) (es : List Entry) (e : Entry) → sound record { head = h; entries = es } ≡ true → length es < 64
+    → rises (seats es ++ e.seat ∷ []) ≡ true → sound_entry h.timestamp e ≡ true → sound record { head = h; entries = es ++ e ∷ [] } ≡ true
+sound_push h es e s l r f =
     let p = parts record { head = h; entries = es } s in
     let n = length_push es e in
     whole record { head = h; entries = es ++ e ∷ [] }
-    record { head = p.head; few = omega arith; rising = ap rises (map_push (λ x. x.seat) es e) ∙ r; each = every-push (soundEntry h.timestamp) es e p.each f }
+    record { head = p.head; few = omega arith; rising = ap rises (map_push (λ x. x.seat) es e) ∙ r; each = every_push (sound_entry h.timestamp) es e p.each f }

@@ -22,27 +22,27 @@ bytes-front w b h l =
     let e : length (take w b) ≡ w = length-take-le w b l in
     ap (λ k. bytes k (number (take w b))) (sym e) ∙ bytes-number (take w b) (bytes_take w b h)
 
-pub spell-fields : (k : ℕ) (ws b : List ℕ) → Bytes b → k + total ws ≤ length b → spell ws (fields k ws b) ++ drop (k + total ws) b ≡ drop k b
+pub spell_fields : (k : ℕ) (ws b : List ℕ) → Bytes b → k + total ws ≤ length b → spell ws (fields k ws b) ++ drop (k + total ws) b ≡ drop k b
 unfolding spell
-spell-fields k [] b h l = rw add-zero
-spell-fields k (w ∷ ws) b h l =
+spell_fields k [] b h l = rw add-zero
+spell_fields k (w ∷ ws) b h l =
     let f : bytes w (field k w b) ≡ take w (drop k b) = bytes-front w (drop k b) (bytes_drop k b h) (simp length-drop (omega arith)) in
-    let r = spell-fields (k + w) ws b h (omega arith) in
+    let r = spell_fields (k + w) ws b h (omega arith) in
     let e : k + (w + total ws) ≡ k + w + total ws = omega arith in
     let s : take w (drop k b) ++ drop (k + w) b ≡ drop k b = ap (λ t. take w (drop k b) ++ t) (sym (drop-drop w k b)) ∙ take-append-drop w (drop k b) in
     rw (append_assoc, e, f, r) s
 
 -- numbers that fit their widths are read back from their spelling
-pub fields-spell : (at : ℕ) (ws vs b r : List ℕ) → Fits ws vs → drop at b ≡ spell ws vs ++ r → fields at ws b ≡ vs
+pub fields_spell : (at : ℕ) (ws vs b r : List ℕ) → Fits ws vs → drop at b ≡ spell ws vs ++ r → fields at ws b ≡ vs
 unfolding spell
-fields-spell at [] [] b r f e = refl
-fields-spell at [] (v ∷ vs) b r f e = absurd f
-fields-spell at (w ∷ ws) [] b r f e = absurd f
-fields-spell at (w ∷ ws) (v ∷ vs) b r f e =
+fields_spell at [] [] b r f e = refl
+fields_spell at [] (v ∷ vs) b r f e = absurd f
+fields_spell at (w ∷ ws) [] b r f e = absurd f
+fields_spell at (w ∷ ws) (v ∷ vs) b r f e =
     let s : drop at b ≡ bytes w v ++ (spell ws vs ++ r) = e ∙ append_assoc (bytes w v) (spell ws vs) r in
     let x : field at w b ≡ v = ap (λ z. number (take w z)) s ∙ ap number (take_at (bytes w v) _ w (length-bytes w v)) ∙ number-bytes w v f.0 in
     let d : drop (at + w) b ≡ spell ws vs ++ r = sym (drop-drop w at b) ∙ ap (drop w) s ∙ drop_at (bytes w v) _ w (length-bytes w v) in
-    let y = fields-spell (at + w) ws vs b r f.1 d in
+    let y = fields_spell (at + w) ws vs b r f.1 d in
     cc
 
 module _ {X : Type 0} (f : X → List ℕ) (s : ℕ) where
@@ -63,8 +63,8 @@ module _ {X : Type 0} (f : X → List ℕ) (s : ℕ) where
       let d = drop_at (f x) (joined f xs ++ r) s h.0 in
       rw (append_assoc, t, d) (ap (λ t. f x ∷ t) (pieces-joined xs r h.1))
 
-pub nothing-behind : (a r b : List ℕ) → r ≡ [] → a ++ r ≡ b → a ≡ b
-nothing-behind a r b e f = cc (append-nil a)
+pub nothing_behind : (a r b : List ℕ) → r ≡ [] → a ++ r ≡ b → a ≡ b
+nothing_behind a r b e f = cc (append-nil a)
 
 -- whole pieces, each of s bytes
 pub pieces_whole : (s k : ℕ) (b : List ℕ) → Bytes b → k * s ≤ length b → All (λ p. (length p ≡ s) × Bytes p) (pieces s k b)

@@ -1,7 +1,7 @@
 -- At-or-under is a partial order, and the merge is its least upper bound. Assumes nothing.
 use Rattle.std.proofs.Common.{◌≡◌, ℕ, zero, suc, ◌≤◌, max, true, ◌&&◌, eqb, leb, ◌⊎◌, List, [], ◌∷◌, length, take, replicate, sym, refl, ap, ◌∙◌, arith}
 use Rattle.std.proofs.lemmas.Bool.{and_parts, and_from, leb-true, le-leb, lt-leb, eqb-true, ne_eqb}
-use Rattle.gossip.specs.Timestamps.{under, merged, part, zeroFrom}
+use Rattle.gossip.specs.Timestamps.{under, merged, part, zero_from}
 use Rattle.gossip.specs.TimestampLaws.{Order, Join}
 
 -- what the test tells, part by part
@@ -17,23 +17,23 @@ part-under [] t f = refl
 part-under (x ∷ s) [] f = and_from (leb x 0) (under s []) (le-leb x 0 (f 0)) (part-under s [] (λ p. f (suc p)))
 part-under (x ∷ s) (y ∷ t) f = and_from (leb x y) (under s t) (le-leb x y (f 0)) (part-under s t (λ p. f (suc p)))
 
-pub under-refl : (s : List ℕ) → under s s ≡ true
-under-refl s = part-under s s (λ p. omega arith)
+pub under_refl : (s : List ℕ) → under s s ≡ true
+under_refl s = part-under s s (λ p. omega arith)
 
-pub under-trans : (s t u : List ℕ) → under s t ≡ true → under t u ≡ true → under s u ≡ true
-under-trans s t u h k = part-under s u (λ p. omega (arith, under-part s t h p, under-part t u k p))
+pub under_trans : (s t u : List ℕ) → under s t ≡ true → under t u ≡ true → under s u ≡ true
+under_trans s t u h k = part-under s u (λ p. omega (arith, under-part s t h p, under-part t u k p))
 
-pub under-antisym : (s t : List ℕ) → length s ≡ length t → under s t ≡ true → under t s ≡ true → s ≡ t
-under-antisym [] [] e h k = refl
-under-antisym [] (y ∷ t) e h k = absurd (omega arith)
-under-antisym (x ∷ s) [] e h k = absurd (omega arith)
-under-antisym (x ∷ s) (y ∷ t) e h k =
+pub under_antisym : (s t : List ℕ) → length s ≡ length t → under s t ≡ true → under t s ≡ true → s ≡ t
+under_antisym [] [] e h k = refl
+under_antisym [] (y ∷ t) e h k = absurd (omega arith)
+under_antisym (x ∷ s) [] e h k = absurd (omega arith)
+under_antisym (x ∷ s) (y ∷ t) e h k =
     let a = and_parts (leb x y) (under s t) h in
     let b = and_parts (leb y x) (under t s) k in
     let l = leb-true x y a.0 in
     let m = leb-true y x b.0 in
     let v : x ≡ y = omega arith in
-    let w = under-antisym s t (omega arith) a.1 b.1 in
+    let w = under_antisym s t (omega arith) a.1 b.1 in
     cc
 
 pub part-merged : (s t : List ℕ) (p : ℕ) → part (merged s t) p ≡ max (part s p) (part t p)
@@ -44,91 +44,91 @@ part-merged (x ∷ s) (y ∷ t) zero = refl
 part-merged (x ∷ s) (y ∷ t) (suc p) = part-merged s t p
 
 -- a merge covers what either covers
-pub covers-merged : (k : ℕ) (s t : List ℕ) (p : ℕ) → k ≤ part (merged s t) p → (k ≤ part s p) ⊎ (k ≤ part t p)
-covers-merged k s t p h = let e = part-merged s t p in grind arith
+pub covers_merged : (k : ℕ) (s t : List ℕ) (p : ℕ) → k ≤ part (merged s t) p → (k ≤ part s p) ⊎ (k ≤ part t p)
+covers_merged k s t p h = let e = part-merged s t p in grind arith
 
-pub merged-covers : (k : ℕ) (s t : List ℕ) (p : ℕ) → (k ≤ part s p) ⊎ (k ≤ part t p) → k ≤ part (merged s t) p
-merged-covers k s t p h = let e = part-merged s t p in grind arith
+pub merged_covers : (k : ℕ) (s t : List ℕ) (p : ℕ) → (k ≤ part s p) ⊎ (k ≤ part t p) → k ≤ part (merged s t) p
+merged_covers k s t p h = let e = part-merged s t p in grind arith
 
 pub under-merged-left : (s t : List ℕ) → under s (merged s t) ≡ true
 under-merged-left s t = part-under s (merged s t) (λ p. omega (arith, part-merged s t p))
 
-pub under-merged-right : (s t : List ℕ) → under t (merged s t) ≡ true
-under-merged-right s t = part-under t (merged s t) (λ p. omega (arith, part-merged s t p))
+pub under-merged_right : (s t : List ℕ) → under t (merged s t) ≡ true
+under-merged_right s t = part-under t (merged s t) (λ p. omega (arith, part-merged s t p))
 
-pub merged-least : (s t u : List ℕ) → under s u ≡ true → under t u ≡ true → under (merged s t) u ≡ true
-merged-least s t u h k = part-under (merged s t) u (λ p. omega (arith, part-merged s t p, under-part s u h p, under-part t u k p))
+pub merged_least : (s t u : List ℕ) → under s u ≡ true → under t u ≡ true → under (merged s t) u ≡ true
+merged_least s t u h k = part-under (merged s t) u (λ p. omega (arith, part-merged s t p, under-part s u h p, under-part t u k p))
 
-pub merged-commutes : (s t : List ℕ) → merged s t ≡ merged t s
-merged-commutes [] [] = refl
-merged-commutes [] (y ∷ t) = refl
-merged-commutes (x ∷ s) [] = refl
-merged-commutes (x ∷ s) (y ∷ t) = let e : max x y ≡ max y x = omega arith in let f = merged-commutes s t in cc
+pub merged_commutes : (s t : List ℕ) → merged s t ≡ merged t s
+merged_commutes [] [] = refl
+merged_commutes [] (y ∷ t) = refl
+merged_commutes (x ∷ s) [] = refl
+merged_commutes (x ∷ s) (y ∷ t) = let e : max x y ≡ max y x = omega arith in let f = merged_commutes s t in cc
 
-pub merged-associates : (s t u : List ℕ) → merged (merged s t) u ≡ merged s (merged t u)
-merged-associates [] t u = refl
-merged-associates (x ∷ s) [] u = refl
-merged-associates (x ∷ s) (y ∷ t) [] = refl
-merged-associates (x ∷ s) (y ∷ t) (z ∷ u) = let e : max (max x y) z ≡ max x (max y z) = omega arith in let f = merged-associates s t u in cc
+pub merged_associates : (s t u : List ℕ) → merged (merged s t) u ≡ merged s (merged t u)
+merged_associates [] t u = refl
+merged_associates (x ∷ s) [] u = refl
+merged_associates (x ∷ s) (y ∷ t) [] = refl
+merged_associates (x ∷ s) (y ∷ t) (z ∷ u) = let e : max (max x y) z ≡ max x (max y z) = omega arith in let f = merged_associates s t u in cc
 
-pub merged-repeats : (s : List ℕ) → merged s s ≡ s
-merged-repeats [] = refl
-merged-repeats (x ∷ s) = let e : max x x ≡ x = omega arith in let f = merged-repeats s in cc
+pub merged_repeats : (s : List ℕ) → merged s s ≡ s
+merged_repeats [] = refl
+merged_repeats (x ∷ s) = let e : max x x ≡ x = omega arith in let f = merged_repeats s in cc
 
 pub length_merged : (s t : List ℕ) → length (merged s t) ≡ max (length s) (length t)
 length_merged [] t = omega arith
 length_merged (x ∷ s) [] = omega arith
 length_merged (x ∷ s) (y ∷ t) = let e = length_merged s t in omega arith
 
-zeros-under : (s t : List ℕ) → zeroFrom 0 s ≡ true → under s t ≡ true
-zeros-under [] t z = refl
-zeros-under (x ∷ s) [] z =
-    let p = and_parts (eqb x 0) (zeroFrom 0 s) z in
+zeros_under : (s t : List ℕ) → zero_from 0 s ≡ true → under s t ≡ true
+zeros_under [] t z = refl
+zeros_under (x ∷ s) [] z =
+    let p = and_parts (eqb x 0) (zero_from 0 s) z in
     let e = eqb-true x 0 p.0 in
-    and_from (leb x 0) (under s []) (le-leb x 0 (omega arith)) (zeros-under s [] p.1)
-zeros-under (x ∷ s) (y ∷ t) z =
-    let p = and_parts (eqb x 0) (zeroFrom 0 s) z in
+    and_from (leb x 0) (under s []) (le-leb x 0 (omega arith)) (zeros_under s [] p.1)
+zeros_under (x ∷ s) (y ∷ t) z =
+    let p = and_parts (eqb x 0) (zero_from 0 s) z in
     let e = eqb-true x 0 p.0 in
-    and_from (leb x y) (under s t) (le-leb x y (omega arith)) (zeros-under s t p.1)
+    and_from (leb x y) (under s t) (le-leb x y (omega arith)) (zeros_under s t p.1)
 
-leb-zero : (x : ℕ) → leb x 0 ≡ eqb x 0
-leb-zero zero = refl
-leb-zero (suc x) = lt-leb (suc x) 0 (omega arith) ∙ sym (ne_eqb (suc x) 0 (λ e. omega arith))
+leb_zero : (x : ℕ) → leb x 0 ≡ eqb x 0
+leb_zero zero = refl
+leb_zero (suc x) = lt-leb (suc x) 0 (omega arith) ∙ sym (ne_eqb (suc x) 0 (λ e. omega arith))
 
 -- what is at or under zeros is zero
-pub under-zeros : (s : List ℕ) (k : ℕ) → under s (replicate k 0) ≡ zeroFrom 0 s
-under-zeros [] k = refl
-under-zeros (x ∷ s) zero = λ i. leb-zero x i && under-zeros s zero i
-under-zeros (x ∷ s) (suc k) = λ i. leb-zero x i && under-zeros s k i
+pub under_zeros : (s : List ℕ) (k : ℕ) → under s (replicate k 0) ≡ zero_from 0 s
+under_zeros [] k = refl
+under_zeros (x ∷ s) zero = λ i. leb_zero x i && under_zeros s zero i
+under_zeros (x ∷ s) (suc k) = λ i. leb_zero x i && under_zeros s k i
 
-pub under-prefix : (n : ℕ) (s t : List ℕ) → zeroFrom n s ≡ true → under (take n s) (take n t) ≡ under s t
-under-prefix zero [] t z = refl
-under-prefix zero (x ∷ s) t z = sym (zeros-under (x ∷ s) t z)
-under-prefix (suc n) [] t z = refl
-under-prefix (suc n) (x ∷ s) [] z = ap (λ b. leb x 0 && b) (under-nil n s z)
+pub under_prefix : (n : ℕ) (s t : List ℕ) → zero_from n s ≡ true → under (take n s) (take n t) ≡ under s t
+under_prefix zero [] t z = refl
+under_prefix zero (x ∷ s) t z = sym (zeros_under (x ∷ s) t z)
+under_prefix (suc n) [] t z = refl
+under_prefix (suc n) (x ∷ s) [] z = ap (λ b. leb x 0 && b) (under-nil n s z)
   where
-    under-nil : (n : ℕ) (s : List ℕ) → zeroFrom n s ≡ true → under (take n s) [] ≡ under s []
-    under-nil zero s z = sym (zeros-under s [] z)
+    under-nil : (n : ℕ) (s : List ℕ) → zero_from n s ≡ true → under (take n s) [] ≡ under s []
+    under-nil zero s z = sym (zeros_under s [] z)
     under-nil (suc n) [] z = refl
     under-nil (suc n) (x ∷ s) z = ap (λ b. leb x 0 && b) (under-nil n s z)
-under-prefix (suc n) (x ∷ s) (y ∷ t) z = ap (λ b. leb x y && b) (under-prefix n s t z)
+under_prefix (suc n) (x ∷ s) (y ∷ t) z = ap (λ b. leb x y && b) (under_prefix n s t z)
 
 pub order : Order
 order = record {
-  reflexive = under-refl;
-  transitive = under-trans;
-  antisymmetric = under-antisym;
+  reflexive = under_refl;
+  transitive = under_trans;
+  antisymmetric = under_antisym;
   by_parts = λ s t. (under-part s t, part-under s t);
-  prefix = under-prefix;
+  prefix = under_prefix;
 }
 
 pub join : Join
 join = record {
   left = under-merged-left;
-  right = under-merged-right;
-  least = merged-least;
-  commutes = merged-commutes;
-  associates = merged-associates;
-  repeats = merged-repeats;
-  covers = λ k s t p. (covers-merged k s t p, merged-covers k s t p);
+  right = under-merged_right;
+  least = merged_least;
+  commutes = merged_commutes;
+  associates = merged_associates;
+  repeats = merged_repeats;
+  covers = λ k s t p. (covers_merged k s t p, merged_covers k s t p);
 }

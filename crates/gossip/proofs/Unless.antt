@@ -11,11 +11,11 @@ pub failed : {X : Type 0} (ok : Bool) (e : ℕ) (r : Result X ℕ) → ok ≡ fa
 failed ok e r t = rw t
 
 -- what is not refused passed the test
-pub unless-ok : {X : Type 0} (ok : Bool) (e : ℕ) (r : Result X ℕ) (x : X) → unless ok e r ≡ Ok x → (ok ≡ true) × (r ≡ Ok x)
-unless-ok true e r x q = (refl, q)
-unless-ok false e r x q = absurd (grind arith)
+pub unless_ok : {X : Type 0} (ok : Bool) (e : ℕ) (r : Result X ℕ) (x : X) → unless ok e r ≡ Ok x → (ok ≡ true) × (r ≡ Ok x)
+unless_ok true e r x q = (refl, q)
+unless_ok false e r x q = absurd (grind arith)
 
 -- what is not refused comes of what the first part gave
-pub andThen-ok : {X Y : Type 0} (r : Result X ℕ) (f : X → Result Y ℕ) (y : Y) → and_then r f ≡ Ok y → (x : X) × (r ≡ Ok x) × (f x ≡ Ok y)
-andThen-ok (Ok x) f y q = (x, refl, q)
-andThen-ok (Err e) f y q = absurd (grind arith)
+pub and_then_ok : {X Y : Type 0} (r : Result X ℕ) (f : X → Result Y ℕ) (y : Y) → and_then r f ≡ Ok y → (x : X) × (r ≡ Ok x) × (f x ≡ Ok y)
+and_then_ok (Ok x) f y q = (x, refl, q)
+and_then_ok (Err e) f y q = absurd (grind arith)

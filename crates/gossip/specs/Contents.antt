@@ -7,7 +7,7 @@
 use Rattle.std.specs.Prelude.{ℕ, [], ◌∷◌, ◌++◌, length, take, Ok, Err, Result, nat_le, nat_lt}
 use Rattle.gossip.specs.Messages.{Message, origin, latest, seats, rises, allowed}
 use Rattle.gossip.specs.Refusals.{unless}
-use Rattle.gossip.specs.Timestamps.{zeroFrom}
+use Rattle.gossip.specs.Timestamps.{zero_from}
 use Rattle.gossip.specs.declared.entry.Entry.{Entry}
 use Rattle.gossip.specs.declared.head.Head.{Head}
 use Rattle.gossip.specs.declared.message.Gossip.{Gossip}
@@ -18,7 +18,7 @@ contents g = record { head = g.head; entries = take g.count g.entries }
 abbrev pub started : Head → Result Message ℕ
 started h =
     unless (origin h.n h.sender) 22
-    (unless (zeroFrom h.n h.timestamp.parts) 23
+    (unless (zero_from h.n h.timestamp.parts) 23
     (unless (nat_le h.clock latest) 24
     (Ok (record { head = h; entries = [] }))))
 

@@ -2,17 +2,17 @@
 use Rattle.std.specs.Prelude.{◌≡◌, ℕ, true, List, Ok}
 use Rattle.gossip.specs.Format.{decode, encode}
 use Rattle.gossip.specs.Lattices.{Kind, Laws}
-use Rattle.gossip.specs.Messages.{Message, sound, ofKind}
+use Rattle.gossip.specs.Messages.{Message, sound, of_kind}
 use Rattle.gossip.specs.Numbers.{Bytes}
 
 -- a sound message of the kind is read back from its spelling
-abbrev pub Reads-back : Type 0
-Reads-back = (k : Kind) → Laws k → (m : Message) → sound m ≡ true → ofKind k m ≡ true → decode k (encode k m) ≡ Ok m
+abbrev pub ReadsBack : Type 0
+ReadsBack = (k : Kind) → Laws k → (m : Message) → sound m ≡ true → of_kind k m ≡ true → decode k (encode k m) ≡ Ok m
 
 -- what reads is the only spelling of its contents
-abbrev pub Sole-spelling : Type 0
-Sole-spelling = (k : Kind) (b : List ℕ) (m : Message) → Bytes b → decode k b ≡ Ok m → b ≡ encode k m
+abbrev pub SoleSpelling : Type 0
+SoleSpelling = (k : Kind) (b : List ℕ) (m : Message) → Bytes b → decode k b ≡ Ok m → b ≡ encode k m
 
 -- what reads is sound, and of the kind
-abbrev pub Reads-sound : Type 0
-Reads-sound = (k : Kind) (b : List ℕ) (m : Message) → Bytes b → decode k b ≡ Ok m → (sound m ≡ true) × (ofKind k m ≡ true)
+abbrev pub ReadsSound : Type 0
+ReadsSound = (k : Kind) (b : List ℕ) (m : Message) → Bytes b → decode k b ≡ Ok m → (sound m ≡ true) × (of_kind k m ≡ true)

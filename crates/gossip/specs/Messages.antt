@@ -9,11 +9,11 @@
 -- wide..        a timestamp, or a tombstone's, has seven parts of 32 bits: true of all that the code holds
 -- allowed t s   a state that may stand in a message with the timestamp t: a value; or a tombstone with a time, and a timestamp at or under t
 -- sound..       a head, an entry beside a timestamp, or a message keeps every rule of the format but that of its kind
--- ofKind k m    the message's values are values of the kind k
+-- of_kind k m    the message's values are values of the kind k
 use Rattle.std.specs.Prelude.{ℕ, ◌^◌, Bool, true, ◌&&◌, ltb, List, [], ◌∷◌, map, length, ◌==◌, nat_le, nat_lt}
 use Rattle.gossip.specs.Lattices.{Kind}
 use Rattle.gossip.specs.Numbers.{every}
-use Rattle.gossip.specs.Timestamps.{under, zeroFrom}
+use Rattle.gossip.specs.Timestamps.{under, zero_from}
 use Rattle.gossip.specs.declared.timestamp.Timestamp.{Timestamp}
 use Rattle.gossip.specs.declared.entry.Entry.{Entry}
 use Rattle.gossip.specs.declared.entry.State.{State}
@@ -41,38 +41,38 @@ rises (x ∷ xs) = below x xs && rises xs
 abbrev pub origin : ℕ → ℕ → Bool
 origin n sender = nat_le 1 n && (nat_le n 7 && nat_lt sender n)
 
-abbrev pub wideTimestamp : Timestamp → Bool
-wideTimestamp t = length t.parts == 7 && every (λ x. ltb x (2 ^ 32)) t.parts
+abbrev pub wide_timestamp : Timestamp → Bool
+wide_timestamp t = length t.parts == 7 && every (λ x. ltb x (2 ^ 32)) t.parts
 
-abbrev pub wideState : State → Bool
-wideState (Value v) = true
-wideState (Tombstone t s) = wideTimestamp s
+abbrev pub wide_state : State → Bool
+wide_state (Value v) = true
+wide_state (Tombstone t s) = wide_timestamp s
 
 abbrev pub allowed : Timestamp → State → Bool
 allowed top (Value v) = true
 allowed top (Tombstone t s) = nat_le t latest && under s.parts top.parts
 
-abbrev pub soundHead : Head → Bool
-soundHead h =
+abbrev pub sound_head : Head → Bool
+sound_head h =
     origin h.n h.sender
     && (nat_lt h.group (2 ^ 32)
     && (nat_le h.clock latest
-    && (wideTimestamp h.timestamp
-    && zeroFrom h.n h.timestamp.parts)))
+    && (wide_timestamp h.timestamp
+    && zero_from h.n h.timestamp.parts)))
 
-abbrev pub soundEntry : Timestamp → Entry → Bool
-soundEntry top e = nat_lt e.seat (2 ^ 64) && (wideState e.state && allowed top e.state)
+abbrev pub sound_entry : Timestamp → Entry → Bool
+sound_entry top e = nat_lt e.seat (2 ^ 64) && (wide_state e.state && allowed top e.state)
 
 abbrev pub sound : Message → Bool
 sound m =
-    soundHead m.head
+    sound_head m.head
     && (nat_le (length m.entries) 64
     && (rises (seats m.entries)
-    && every (soundEntry m.head.timestamp) m.entries))
+    && every (sound_entry m.head.timestamp) m.entries))
 
-abbrev pub ofKindState : Kind → State → Bool
-ofKindState k (Value v) = k.valid v
-ofKindState k (Tombstone t s) = true
+abbrev pub of_kind_state : Kind → State → Bool
+of_kind_state k (Value v) = k.valid v
+of_kind_state k (Tombstone t s) = true
 
-abbrev pub ofKind : Kind → Message → Bool
-ofKind k m = every (λ e. ofKindState k e.state) m.entries
+abbrev pub of_kind : Kind → Message → Bool
+of_kind k m = every (λ e. of_kind_state k e.state) m.entries

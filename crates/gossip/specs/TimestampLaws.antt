@@ -1,6 +1,6 @@
 -- What is proved of timestamps, whatever their lengths: at-or-under is a partial order, and a merge is its least upper bound.
 use Rattle.std.specs.Prelude.{◌≡◌, ℕ, ◌≤◌, true, ◌⊎◌, ◌↔◌, List, length, take}
-use Rattle.gossip.specs.Timestamps.{under, merged, part, zeroFrom}
+use Rattle.gossip.specs.Timestamps.{under, merged, part, zero_from}
 
 pub record Order : Type 0 where
   pub reflexive : (s : List ℕ) → under s s ≡ true
@@ -9,7 +9,7 @@ pub record Order : Type 0 where
   -- the test means what its name says, part by part
   pub by_parts : (s t : List ℕ) → (under s t ≡ true) ↔ ((p : ℕ) → part s p ≤ part t p)
   -- only the parts that a group uses matter
-  pub prefix : (n : ℕ) (s t : List ℕ) → zeroFrom n s ≡ true → under (take n s) (take n t) ≡ under s t
+  pub prefix : (n : ℕ) (s t : List ℕ) → zero_from n s ≡ true → under (take n s) (take n t) ≡ under s t
 
 pub record Join : Type 0 where
   pub left : (s t : List ℕ) → under s (merged s t) ≡ true

@@ -5,9 +5,9 @@
 -- merged s t        the larger of each part
 -- bumped s p        one more in part p
 -- padded s          s with zeros behind it, seven parts in all
--- zeroFrom n s      the parts from the n-th on are 0, as in every timestamp of n replicas
+-- zero_from n s      the parts from the n-th on are 0, as in every timestamp of n replicas
 -- exactly n k       k numbers are a timestamp of n replicas: k is n, and n is 1 to 7
--- exactlyBytes n k  k bytes are one, four to a number: k is 4n, and n is 1 to 7
+-- exactly_bytes n k  k bytes are one, four to a number: k is 4n, and n is 1 to 7
 use Rattle.std.specs.Prelude.{ℕ, zero, suc, ◌+◌, ◌-◌, ◌*◌, max, Bool, true, ◌&&◌, List, [], ◌∷◌, ◌++◌, length, replicate, ◌==◌, nat_le, slice_index, slice_set}
 
 abbrev pub part : List ℕ → ℕ → ℕ
@@ -29,13 +29,13 @@ bumped s p = slice_set s p (part s p + 1)
 abbrev pub padded : List ℕ → List ℕ
 padded s = s ++ replicate (7 - length s) 0
 
-abbrev pub zeroFrom : ℕ → List ℕ → Bool
-zeroFrom n [] = true
-zeroFrom zero (x ∷ s) = x == 0 && zeroFrom zero s
-zeroFrom (suc n) (x ∷ s) = zeroFrom n s
+abbrev pub zero_from : ℕ → List ℕ → Bool
+zero_from n [] = true
+zero_from zero (x ∷ s) = x == 0 && zero_from zero s
+zero_from (suc n) (x ∷ s) = zero_from n s
 
 abbrev pub exactly : ℕ → ℕ → Bool
 exactly n k = nat_le 1 n && (nat_le n 7 && k == n)
 
-abbrev pub exactlyBytes : ℕ → ℕ → Bool
-exactlyBytes n k = nat_le 1 n && (nat_le n 7 && k == 4 * n)
+abbrev pub exactly_bytes : ℕ → ℕ → Bool
+exactly_bytes n k = nat_le 1 n && (nat_le n 7 && k == 4 * n)

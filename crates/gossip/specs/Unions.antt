@@ -4,14 +4,14 @@ use Rattle.std.proofs.Common.{sym, ap, ap₂, ◌∙◌, div-add-mod', mod-lt, z
 use Rattle.std.proofs.Math.Arith.{bin_ind}
 use Rattle.std.proofs.lemmas.Nat.{or_shr, or_mod}
 
-digits-assoc : (x y z : ℕ) → x < 2 → y < 2 → z < 2 → bit_or (bit_or x y) z ≡ bit_or x (bit_or y z)
-digits-assoc zero y z hx hy hz = refl
-digits-assoc (suc zero) zero z hx hy hz = refl
-digits-assoc (suc zero) (suc zero) zero hx hy hz = refl
-digits-assoc (suc zero) (suc zero) (suc zero) hx hy hz = refl
-digits-assoc (suc zero) (suc zero) (suc (suc z)) hx hy hz = omega arith
-digits-assoc (suc zero) (suc (suc y)) z hx hy hz = omega arith
-digits-assoc (suc (suc x)) y z hx hy hz = omega arith
+digits_assoc : (x y z : ℕ) → x < 2 → y < 2 → z < 2 → bit_or (bit_or x y) z ≡ bit_or x (bit_or y z)
+digits_assoc zero y z hx hy hz = refl
+digits_assoc (suc zero) zero z hx hy hz = refl
+digits_assoc (suc zero) (suc zero) zero hx hy hz = refl
+digits_assoc (suc zero) (suc zero) (suc zero) hx hy hz = refl
+digits_assoc (suc zero) (suc zero) (suc (suc z)) hx hy hz = omega arith
+digits_assoc (suc zero) (suc (suc y)) z hx hy hz = omega arith
+digits_assoc (suc (suc x)) y z hx hy hz = omega arith
 
 by_digits : (a b : ℕ) → a / 2 ≡ b / 2 → a % 2 ≡ b % 2 → a ≡ b
 by_digits a b hi lo = sym (div-add-mod' a 2) ∙ ap₂ (λ (x y : ℕ). x * 2 + y) hi lo ∙ div-add-mod' b 2
@@ -23,5 +23,5 @@ or_assoc =
     (or_shr (bit_or n b) c 1 ∙ ap (λ (x : ℕ). bit_or x (c / 2)) (or_shr n b 1) ∙ ih (b / 2) (c / 2)
     ∙ sym (or_shr n (bit_or b c) 1 ∙ ap (bit_or (n / 2)) (or_shr b c 1)))
     (or_mod (bit_or n b) c 1 ∙ ap (λ (x : ℕ). bit_or x (c % 2)) (or_mod n b 1)
-    ∙ digits-assoc (n % 2) (b % 2) (c % 2) (mod-lt n (zero-lt-suc 1)) (mod-lt b (zero-lt-suc 1)) (mod-lt c (zero-lt-suc 1))
+    ∙ digits_assoc (n % 2) (b % 2) (c % 2) (mod-lt n (zero-lt-suc 1)) (mod-lt b (zero-lt-suc 1)) (mod-lt c (zero-lt-suc 1))
     ∙ sym (or_mod n (bit_or b c) 1 ∙ ap (bit_or (n % 2)) (or_mod b c 1))))

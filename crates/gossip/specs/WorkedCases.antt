@@ -1,6 +1,6 @@
 -- Worked cases, proved of the definitions that the contracts cite.
 use Rattle.std.specs.Prelude.{◌≡◌, ◌≤◌, true, false, [], ◌∷◌, length}
-use Rattle.gossip.specs.Format.{encode, messageLength}
+use Rattle.gossip.specs.Format.{encode, message_length}
 use Rattle.gossip.specs.Lattices.{Kind, counts, ports}
 use Rattle.gossip.specs.Messages.{Message, sound}
 use Rattle.gossip.specs.Timestamps.{under, merged}
@@ -15,8 +15,8 @@ pub record WorkedCases : Type 0 where
   pub union : ports.join 3 5 ≡ 7
   pub larger : counts.join 3 5 ≡ 5
   -- every message is as long as the format says, and at most 3,124 bytes
-  pub length-of : (k : Kind) (m : Message) → sound m ≡ true → length (encode k m) ≡ messageLength m.head.n (length m.entries)
+  pub length_of : (k : Kind) (m : Message) → sound m ≡ true → length (encode k m) ≡ message_length m.head.n (length m.entries)
   pub at_most : (k : Kind) (m : Message) → sound m ≡ true → length (encode k m) ≤ 3124
   -- the empty message of three replicas has 36 bytes, the longest, of seven and with 64 entries, 3,124
-  pub shortest : messageLength 3 0 ≡ 36
-  pub longest : messageLength 7 64 ≡ 3124
+  pub shortest : message_length 3 0 ≡ 36
+  pub longest : message_length 7 64 ≡ 3124

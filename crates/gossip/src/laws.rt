@@ -1,5 +1,5 @@
 // The theorems of this crate, one function each, so that a check asks for their proofs.
-ghost use Rattle.gossip.specs.FormatLaws.{Reads-back, Sole-spelling, Reads-sound};
+ghost use Rattle.gossip.specs.FormatLaws.{ReadsBack, SoleSpelling, ReadsSound};
 ghost use Rattle.gossip.specs.TimestampLaws.{Order, Join};
 ghost use Rattle.gossip.specs.WorkedCases.{WorkedCases};
 
@@ -11,9 +11,9 @@ pub fn timestamps_are_ordered()
 
 // A sound message is read back from its spelling; what reads is sound, and the only spelling of its contents.
 pub fn format_is_exact()
-    ensures back { Reads-back }
-    ensures sole { Sole-spelling }
-    ensures sound { Reads-sound }
+    ensures back { ReadsBack }
+    ensures sole { SoleSpelling }
+    ensures sound { ReadsSound }
 {}
 
 // Examples with numbers, and the lengths of messages.

@@ -1,8 +1,8 @@
 // Reading a gossip message.
 ghost use Rattle.std.specs.Prelude.{◌≡◌, ◌*◌, ◌<◌, ◌≤◌, true, map, length, IfOk, slice_index_or};
 ghost use Rattle.gossip.specs.Contents.{contents};
-ghost use Rattle.gossip.specs.Format.{decode, decodeHead, decodeEntries, encode, entryLength, messageLength, layout, stateAt, seatAt, value_at, tombstoneAt};
-ghost use Rattle.gossip.specs.Messages.{sound, soundHead, ofKind, rises};
+ghost use Rattle.gossip.specs.Format.{decode, decode_head, decode_entries, encode, entry_length, message_length, layout, state_at, seat_at, value_at, tombstone_at};
+ghost use Rattle.gossip.specs.Messages.{sound, sound_head, of_kind, rises};
 ghost use Rattle.gossip.specs.Numbers.{field, pieces};
 ghost use Rattle.gossip.specs.Refusals.{outcome};
 
@@ -40,7 +40,7 @@ impl Gossip {
     pub fn read<L: Lattice>(bytes: &[u8]) -> Result<Gossip, Refusal>
         ensures answer { outcome contents result ≡ decode kind bytes.now }
         ensures spelling { IfOk result (λ g. bytes.now ≡ encode kind (contents g)) }
-        ensures kind { IfOk result (λ g. ofKind kind (contents g) ≡ true) }
+        ensures kind { IfOk result (λ g. of_kind kind (contents g) ≡ true) }
     {
         let (head, count) = read_head::<L>(bytes)?;
         let at = FRONT + 4 * head.n;
@@ -50,9 +50,9 @@ impl Gossip {
 
 // The head and the number of entries.
 fn read_head<L: Lattice>(bytes: &[u8]) -> Result<(Head, usize), Refusal>
-    ensures answer { outcome (λ p. p.0) result ≡ decodeHead kind bytes.now }
-    ensures count { IfOk result (λ p. (p.1 ≡ field 8 2 bytes.now) × (p.1 ≤ 64) × (length bytes.now ≡ messageLength p.0.n p.1)) }
-    ensures sound { IfOk result (λ p. soundHead p.0 ≡ true) }
+    ensures answer { outcome (λ p. p.0) result ≡ decode_head kind bytes.now }
+    ensures count { IfOk result (λ p. (p.1 ≡ field 8 2 bytes.now) × (p.1 ≤ 64) × (length bytes.now ≡ message_length p.0.n p.1)) }
+    ensures sound { IfOk result (λ p. sound_head p.0 ≡ true) }
 {
     if bytes.len() < FRONT {
         return Err(Refusal::Short);
@@ -125,10 +125,10 @@ fn is_laid_out(n: usize, fields: &Fields, len: usize) -> bool
 
 // The message with this head whose entries the bytes spell.
 fn read_entries<L: Lattice>(head: Head, count: usize, bytes: &[u8]) -> Result<Gossip, Refusal>
-    requires sound { soundHead head ≡ true }
+    requires sound { sound_head head ≡ true }
     requires few { count ≤ 64 }
-    requires whole { length bytes.now ≡ count * entryLength head.n }
-    ensures { outcome contents result ≡ decodeEntries kind head (pieces (entryLength head.n) count bytes.now) }
+    requires whole { length bytes.now ≡ count * entry_length head.n }
+    ensures { outcome contents result ≡ decode_entries kind head (pieces (entry_length head.n) count bytes.now) }
 {
     let size = 20 + 4 * head.n;
     if !seats_rise(bytes, size, count) {
@@ -169,7 +169,7 @@ fn piece(bytes: &[u8], size: usize, count: usize, i: usize) -> &[u8]
 fn seats_rise(bytes: &[u8], size: usize, count: usize) -> bool
     requires wide { 8 ≤ size }
     requires whole { length bytes.now ≡ count * size }
-    ensures { result ≡ rises (map seatAt (pieces size count bytes.now)) }
+    ensures { result ≡ rises (map seat_at (pieces size count bytes.now)) }
 {
     if count == 0 {
         return true;
@@ -188,8 +188,8 @@ fn seats_rise(bytes: &[u8], size: usize, count: usize) -> bool
 // The state in the bytes of an entry, unless it has another mark or breaks its mark's rule.
 fn read_state<L: Lattice>(entry: &[u8], n: usize, top: &Timestamp) -> Option<State>
     requires few { n ≤ 7 }
-    requires whole { length entry.now ≡ entryLength n }
-    ensures { result ≡ stateAt kind n top.now entry.now }
+    requires whole { length entry.now ≡ entry_length n }
+    ensures { result ≡ state_at kind n top.now entry.now }
 {
     let timestamp = Timestamp::from_bytes(&entry[20..], n);
     match u32_at(entry, 16) {
@@ -210,7 +210,7 @@ fn read_value<L: Lattice>(word: u64, timestamp: &Timestamp) -> Option<State>
 }
 
 fn read_tombstone(word: u64, timestamp: Timestamp, top: &Timestamp) -> Option<State>
-    ensures { result ≡ tombstoneAt top.now word timestamp }
+    ensures { result ≡ tombstone_at top.now word timestamp }
 {
     let (under, _) = timestamp.compare(top);
     if word <= LATEST && under {

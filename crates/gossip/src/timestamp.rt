@@ -1,9 +1,9 @@
 // Multipart timestamps: one counter for each replica of a group.
 ghost use Rattle.std.specs.Prelude.{◌≡◌, ◌*◌, ◌≤◌, true, [], length, take, is_ok, if◌then◌else◌, Ok, nat_lt};
-ghost use Rattle.gossip.specs.Format.{encodeTimestamp, timestampAt};
-ghost use Rattle.gossip.specs.Messages.{wideTimestamp};
+ghost use Rattle.gossip.specs.Format.{encode_timestamp, timestamp_at};
+ghost use Rattle.gossip.specs.Messages.{wide_timestamp};
 ghost use Rattle.gossip.specs.Refusals.{outcome, unless};
-ghost use Rattle.gossip.specs.Timestamps.{part, under, merged, bumped, padded, exactly, exactlyBytes, zeroFrom};
+ghost use Rattle.gossip.specs.Timestamps.{part, under, merged, bumped, padded, exactly, exactly_bytes, zero_from};
 
 use crate::numbers::u32_at;
 use crate::refusal::Refusal;
@@ -91,7 +91,7 @@ impl Timestamp {
 
     // The timestamp of n replicas that exactly 4n bytes spell.
     pub fn read_bytes(n: usize, bytes: &[u8]) -> Result<Timestamp, Refusal>
-        ensures answer { outcome (λ t. t) result ≡ unless (exactlyBytes n (length bytes.now)) 8 (Ok (timestampAt n bytes.now)) }
+        ensures answer { outcome (λ t. t) result ≡ unless (exactly_bytes n (length bytes.now)) 8 (Ok (timestamp_at n bytes.now)) }
     {
         if !exact_bytes(n, bytes.len()) {
             return Err(Refusal::Parts);
@@ -101,8 +101,8 @@ impl Timestamp {
 
     // Writes the first n parts over exactly 4n bytes; a refusal writes nothing.
     pub fn write_bytes(&self, n: usize, out: &mut [u8]) -> Result<(), Refusal>
-        ensures answer { outcome (λ u. u) result ≡ unless (exactlyBytes n (length out.old)) 8 (Ok tt) }
-        ensures buffer { out.new ≡ (if is_ok result then encodeTimestamp n self.now else out.old) }
+        ensures answer { outcome (λ u. u) result ≡ unless (exactly_bytes n (length out.old)) 8 (Ok tt) }
+        ensures buffer { out.new ≡ (if is_ok result then encode_timestamp n self.now else out.old) }
     {
         if !exact_bytes(n, out.len()) {
             return Err(Refusal::Parts);
@@ -124,8 +124,8 @@ impl Timestamp {
 
     // Whether it is a timestamp of n replicas: the parts from the n-th on are 0.
     pub(crate) fn is_of(&self, n: usize) -> bool
-        ensures answer { result ≡ zeroFrom n self.now.parts }
-        ensures wide { wideTimestamp self.now ≡ true }
+        ensures answer { result ≡ zero_from n self.now.parts }
+        ensures wide { wide_timestamp self.now ≡ true }
     {
         let mut zero = true;
         for i in 0..MOST {
@@ -137,7 +137,7 @@ impl Timestamp {
     // The timestamp that n numbers of four bytes spell.
     pub(crate) fn from_bytes(src: &[u8], n: usize) -> Timestamp
         requires { (n ≤ 7) × (4 * n ≤ length src.now) }
-        ensures { result ≡ timestampAt n src.now }
+        ensures { result ≡ timestamp_at n src.now }
     {
         let mut parts = [0; 7];
         for i in 0..n {
@@ -156,7 +156,7 @@ fn exact(n: usize, len: usize) -> bool
 
 // Whether so many bytes are a timestamp of n replicas.
 fn exact_bytes(n: usize, len: usize) -> bool
-    ensures { result ≡ exactlyBytes n len }
+    ensures { result ≡ exactly_bytes n len }
 {
     1 <= n && n <= MOST && len == 4 * n
 }

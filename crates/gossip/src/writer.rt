@@ -1,8 +1,8 @@
 // Writing a gossip message.
 ghost use Rattle.std.specs.Prelude.{◌≡◌, ◌+◌, ◌*◌, ◌≤◌, true, length, take, IfOk, if◌then◌else◌, Ok};
 ghost use Rattle.gossip.specs.Contents.{contents};
-ghost use Rattle.gossip.specs.Format.{decode, encode, encodeEntry, encodeTimestamp, entryLength, word_of, mark_of, timestampOf};
-ghost use Rattle.gossip.specs.Messages.{ofKind, ofKindState};
+ghost use Rattle.gossip.specs.Format.{decode, encode, encode_entry, encode_timestamp, entry_length, word_of, mark_of, timestamp_of};
+ghost use Rattle.gossip.specs.Messages.{of_kind, of_kind_state};
 ghost use Rattle.gossip.specs.Numbers.{every, joined, put_at, spell, total};
 ghost use Rattle.gossip.specs.Refusals.{outcome, unless};
 
@@ -20,8 +20,8 @@ impl Gossip {
     // Writes the message, as one of the lattice's kind, to the front of the bytes and leaves the rest. The answer is its length.
     // A value that is not of the kind is refused, and nothing is written then.
     pub fn write<L: Lattice>(&self, out: &mut [u8; ROOM]) -> Result<usize, Refusal>
-        ensures answer { outcome (λ len. len) result ≡ unless (ofKind kind (contents self.now)) 26 (Ok (length (encode kind (contents self.now)))) }
-        ensures buffer { out.new ≡ (if ofKind kind (contents self.now) then put_at 0 (encode kind (contents self.now)) out.old else out.old) }
+        ensures answer { outcome (λ len. len) result ≡ unless (of_kind kind (contents self.now)) 26 (Ok (length (encode kind (contents self.now)))) }
+        ensures buffer { out.new ≡ (if of_kind kind (contents self.now) then put_at 0 (encode kind (contents self.now)) out.old else out.old) }
         ensures back { IfOk result (λ len. decode kind (take len out.new) ≡ Ok (contents self.now)) }
     {
         if !are_of_kind::<L>(self.entries()) {
@@ -35,7 +35,7 @@ impl Gossip {
     pub fn spell<L: Lattice>(&self, out: &mut [u8; ROOM]) -> usize
         ensures answer { result ≡ length (encode kind (contents self.now)) }
         ensures buffer { out.new ≡ put_at 0 (encode kind (contents self.now)) out.old }
-        ensures back { ofKind kind (contents self.now) ≡ true → decode kind (take result out.new) ≡ Ok (contents self.now) }
+        ensures back { of_kind kind (contents self.now) ≡ true → decode kind (take result out.new) ≡ Ok (contents self.now) }
         ensures fits { result ≤ 3124 }
     {
         let head = self.head;
@@ -67,7 +67,7 @@ impl Gossip {
 
 // Whether the values among the entries are of the lattice's kind.
 fn are_of_kind<L: Lattice>(entries: &[Entry]) -> bool
-    ensures { result ≡ every (λ e. ofKindState kind e.state) entries.now }
+    ensures { result ≡ every (λ e. of_kind_state kind e.state) entries.now }
 {
     for entry in entries {
         if !is_of_kind::<L>(&entry.state) {
@@ -78,7 +78,7 @@ fn are_of_kind<L: Lattice>(entries: &[Entry]) -> bool
 }
 
 fn is_of_kind<L: Lattice>(state: &State) -> bool
-    ensures { result ≡ ofKindState kind state.now }
+    ensures { result ≡ of_kind_state kind state.now }
 {
     match state {
         State::Value(value) => L::is_value(*value),
@@ -103,8 +103,8 @@ fn put_numbers(out: &mut [u8], at: usize, widths: &[usize], values: &[u64])
 pub(crate) fn put_timestamp(out: &mut [u8], at: usize, n: usize, timestamp: &Timestamp)
     requires few { n ≤ 7 }
     requires within { at + 4 * n ≤ length out.old }
-    ensures written { out.new ≡ put_at at (encodeTimestamp n timestamp.now) out.old }
-    ensures long { length (encodeTimestamp n timestamp.now) ≡ 4 * n }
+    ensures written { out.new ≡ put_at at (encode_timestamp n timestamp.now) out.old }
+    ensures long { length (encode_timestamp n timestamp.now) ≡ 4 * n }
 {
     for i in 0..n {
         put(out, at + 4 * i, 4, u64::from(timestamp.parts[i]));
@@ -115,7 +115,7 @@ pub(crate) fn put_timestamp(out: &mut [u8], at: usize, n: usize, timestamp: &Tim
 fn spelled(state: &State) -> (u64, u64, Timestamp)
     ensures word { result.0 ≡ word_of state.now }
     ensures mark { result.1 ≡ mark_of state.now }
-    ensures timestamp { result.2 ≡ timestampOf state.now }
+    ensures timestamp { result.2 ≡ timestamp_of state.now }
 {
     match state {
         State::Value(value) => (*value, 1, Timestamp::zero()),
@@ -126,9 +126,9 @@ fn spelled(state: &State) -> (u64, u64, Timestamp)
 // Writes an entry from a place on.
 fn put_entry(out: &mut [u8], at: usize, n: usize, entry: &Entry)
     requires few { n ≤ 7 }
-    requires within { at + entryLength n ≤ length out.old }
-    ensures written { out.new ≡ put_at at (encodeEntry n entry.now) out.old }
-    ensures long { length (encodeEntry n entry.now) ≡ entryLength n }
+    requires within { at + entry_length n ≤ length out.old }
+    ensures written { out.new ≡ put_at at (encode_entry n entry.now) out.old }
+    ensures long { length (encode_entry n entry.now) ≡ entry_length n }
 {
     let (word, mark, timestamp) = spelled(&entry.state);
     put_numbers(out, at, &[8, 8, 4], &[entry.seat, word, mark]);
@@ -138,9 +138,9 @@ fn put_entry(out: &mut [u8], at: usize, n: usize, entry: &Entry)
 // Writes entries one after another from a place on.
 fn put_entries(out: &mut [u8], at: usize, n: usize, entries: &[Entry])
     requires few { n ≤ 7 }
-    requires within { at + length entries.now * entryLength n ≤ length out.old }
-    ensures written { out.new ≡ put_at at (joined (encodeEntry n) entries.now) out.old }
-    ensures long { length (joined (encodeEntry n) entries.now) ≡ length entries.now * entryLength n }
+    requires within { at + length entries.now * entry_length n ≤ length out.old }
+    ensures written { out.new ≡ put_at at (joined (encode_entry n) entries.now) out.old }
+    ensures long { length (joined (encode_entry n) entries.now) ≡ length entries.now * entry_length n }
 {
     let size = 20 + 4 * n;
     for i in 0..entries.len() {

@@ -2,7 +2,7 @@
 --
 -- number e     the number of what kept a call from doing anything
 -- comparison   the pair of answers on two timestamps, as 1 and 2 added up; 8 where they are not of one length from 1 to 7
--- messageOf    the message of a kind, given by its number, that bytes spell; or the refusal
+-- message_of    the message of a kind, given by its number, that bytes spell; or the refusal
 -- room_for      a message, provided that the areas are large enough for it
 -- code r       0, or the refusal's number
 use Rattle.std.specs.Prelude.{ℕ, ◌+◌, cond, ◌&&◌, List, length, Ok, Err, Result, ◌==◌, nat_le, nat_lt}
@@ -29,22 +29,22 @@ outcome f (Err e) = Err (number e)
 abbrev pub comparison : List ℕ → List ℕ → ℕ
 comparison s t = cond (exactly (length s) (length t)) (cond (under s t) 1 0 + cond (under t s) 2 0) 8
 
-abbrev pub messageOf : ℕ → List ℕ → Result Message ℕ
-messageOf kind b = cond (kind == 1) (decode counts b) (cond (kind == 2) (decode ports b) (Err 62))
+abbrev pub message_of : ℕ → List ℕ → Result Message ℕ
+message_of kind b = cond (kind == 1) (decode counts b) (cond (kind == 2) (decode ports b) (Err 62))
 
 -- so many fields, and the parts of a timestamp of n replicas, find room in areas of these lengths
 abbrev pub room_for : ℕ → ℕ → ℕ → Message → Result Message ℕ
 room_for needed fields parts m = unless (nat_le needed fields && nat_le m.head.n parts) 60 (Ok m)
 
-abbrev pub headOutcome : ℕ → List ℕ → ℕ → ℕ → Result Message ℕ
-headOutcome kind b fields parts = and_then (messageOf kind b) (room_for 5 fields parts)
+abbrev pub head_outcome : ℕ → List ℕ → ℕ → ℕ → Result Message ℕ
+head_outcome kind b fields parts = and_then (message_of kind b) (room_for 5 fields parts)
 
 -- the same for the entry of an index, if there is one
-abbrev pub entryRoom : ℕ → ℕ → ℕ → Message → Result Message ℕ
-entryRoom index fields parts m = unless (nat_lt index (length m.entries)) 61 (room_for 3 fields parts m)
+abbrev pub entry_room : ℕ → ℕ → ℕ → Message → Result Message ℕ
+entry_room index fields parts m = unless (nat_lt index (length m.entries)) 61 (room_for 3 fields parts m)
 
-abbrev pub entryOutcome : ℕ → List ℕ → ℕ → ℕ → ℕ → Result Message ℕ
-entryOutcome kind b index fields parts = and_then (messageOf kind b) (entryRoom index fields parts)
+abbrev pub entry_outcome : ℕ → List ℕ → ℕ → ℕ → ℕ → Result Message ℕ
+entry_outcome kind b index fields parts = and_then (message_of kind b) (entry_room index fields parts)
 
 abbrev pub code : Result Message ℕ → ℕ
 code (Ok m) = 0

@@ -1,10 +1,10 @@
 // The entries for C, and what they do.
 ghost use Rattle.std.specs.Prelude.{◌≡◌, ◌≤◌, ◌&&◌, length, nat_le};
 ghost use Rattle.gossip.specs.Contents.{contents};
-ghost use Rattle.gossip.specs.Format.{mark_of, timestampOf, word_of};
+ghost use Rattle.gossip.specs.Format.{mark_of, timestamp_of, word_of};
 ghost use Rattle.gossip.specs.Refusals as refusals;
-ghost use Rattle.host.specs.Areas.{after, front, headFields, headParts, entryFields, entryParts};
-ghost use Rattle.host.specs.Outcomes.{comparison, messageOf, headOutcome, entryOutcome, entryRoom, room_for, code, outcome};
+ghost use Rattle.host.specs.Areas.{after, front, head_fields, head_parts, entry_fields, entry_parts};
+ghost use Rattle.host.specs.Outcomes.{comparison, message_of, head_outcome, entry_outcome, entry_room, room_for, code, outcome};
 
 use crate::outcome::HostRefusal;
 use gossip::{Counts, Gossip, Lattice, Ports, Refusal, State, Timestamp};
@@ -51,9 +51,9 @@ pub extern "C" fn seats_read_head(
     fields: &mut [u64],
     timestamp: &mut [u32],
 ) -> u8
-    ensures answer { result ≡ code (headOutcome kind bytes.now (length fields.old) (length timestamp.old)) }
-    ensures fields { fields.new ≡ after headFields (headOutcome kind bytes.now (length fields.old) (length timestamp.old)) fields.old }
-    ensures timestamp { timestamp.new ≡ after headParts (headOutcome kind bytes.now (length fields.old) (length timestamp.old)) timestamp.old }
+    ensures answer { result ≡ code (head_outcome kind bytes.now (length fields.old) (length timestamp.old)) }
+    ensures fields { fields.new ≡ after head_fields (head_outcome kind bytes.now (length fields.old) (length timestamp.old)) fields.old }
+    ensures timestamp { timestamp.new ≡ after head_parts (head_outcome kind bytes.now (length fields.old) (length timestamp.old)) timestamp.old }
 {
     match read(kind, bytes) {
         Ok(message) => write_head(&message, fields, timestamp),
@@ -70,9 +70,9 @@ pub extern "C" fn seats_read_entry(
     fields: &mut [u64],
     timestamp: &mut [u32],
 ) -> u8
-    ensures answer { result ≡ code (entryOutcome kind bytes.now index (length fields.old) (length timestamp.old)) }
-    ensures fields { fields.new ≡ after (entryFields index) (entryOutcome kind bytes.now index (length fields.old) (length timestamp.old)) fields.old }
-    ensures timestamp { timestamp.new ≡ after (entryParts index) (entryOutcome kind bytes.now index (length fields.old) (length timestamp.old)) timestamp.old }
+    ensures answer { result ≡ code (entry_outcome kind bytes.now index (length fields.old) (length timestamp.old)) }
+    ensures fields { fields.new ≡ after (entry_fields index) (entry_outcome kind bytes.now index (length fields.old) (length timestamp.old)) fields.old }
+    ensures timestamp { timestamp.new ≡ after (entry_parts index) (entry_outcome kind bytes.now index (length fields.old) (length timestamp.old)) timestamp.old }
 {
     match read(kind, bytes) {
         Ok(message) => write_entry(&message, index, fields, timestamp),
@@ -82,7 +82,7 @@ pub extern "C" fn seats_read_entry(
 
 // The message of the kind with this number that the bytes spell.
 fn read(kind: u8, bytes: &[u8]) -> Result<Gossip, HostRefusal>
-    ensures { outcome contents result ≡ messageOf kind bytes.now }
+    ensures { outcome contents result ≡ message_of kind bytes.now }
 {
     match kind {
         COUNTS => refused(Gossip::read::<Counts>(bytes)),
@@ -104,8 +104,8 @@ fn refused(answer: Result<Gossip, Refusal>) -> Result<Gossip, HostRefusal>
 // Writes what a message says besides its entries, if the areas have room for it.
 fn write_head(message: &Gossip, fields: &mut [u64], timestamp: &mut [u32]) -> u8
     ensures answer { result ≡ code (room_for 5 (length fields.old) (length timestamp.old) (contents message.now)) }
-    ensures fields { fields.new ≡ after headFields (room_for 5 (length fields.old) (length timestamp.old) (contents message.now)) fields.old }
-    ensures timestamp { timestamp.new ≡ after headParts (room_for 5 (length fields.old) (length timestamp.old) (contents message.now)) timestamp.old }
+    ensures fields { fields.new ≡ after head_fields (room_for 5 (length fields.old) (length timestamp.old) (contents message.now)) fields.old }
+    ensures timestamp { timestamp.new ≡ after head_parts (room_for 5 (length fields.old) (length timestamp.old) (contents message.now)) timestamp.old }
 {
     let head = message.head();
     let count = message.entries().len();
@@ -128,9 +128,9 @@ fn write_head(message: &Gossip, fields: &mut [u64], timestamp: &mut [u32]) -> u8
 
 // Writes the entry of an index, if there is one and the areas have room for it.
 fn write_entry(message: &Gossip, index: usize, fields: &mut [u64], timestamp: &mut [u32]) -> u8
-    ensures answer { result ≡ code (entryRoom index (length fields.old) (length timestamp.old) (contents message.now)) }
-    ensures fields { fields.new ≡ after (entryFields index) (entryRoom index (length fields.old) (length timestamp.old) (contents message.now)) fields.old }
-    ensures timestamp { timestamp.new ≡ after (entryParts index) (entryRoom index (length fields.old) (length timestamp.old) (contents message.now)) timestamp.old }
+    ensures answer { result ≡ code (entry_room index (length fields.old) (length timestamp.old) (contents message.now)) }
+    ensures fields { fields.new ≡ after (entry_fields index) (entry_room index (length fields.old) (length timestamp.old) (contents message.now)) fields.old }
+    ensures timestamp { timestamp.new ≡ after (entry_parts index) (entry_room index (length fields.old) (length timestamp.old) (contents message.now)) timestamp.old }
 {
     let head = message.head();
     let entries = message.entries();
@@ -158,7 +158,7 @@ fn has_room(needed: usize, n: usize, fields: usize, parts: usize) -> bool
 fn spelled(state: &State) -> (u64, u64, Timestamp)
     ensures mark { result.0 ≡ mark_of state.now }
     ensures word { result.1 ≡ word_of state.now }
-    ensures timestamp { result.2.parts ≡ (timestampOf state.now).parts }
+    ensures timestamp { result.2.parts ≡ (timestamp_of state.now).parts }
 {
     match state {
         State::Value(value) => (VALUE, *value, Timestamp::zero()),

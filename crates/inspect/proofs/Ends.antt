@@ -2,20 +2,20 @@
 use Rattle.std.proofs.Common.{◌≡◌, ℕ, zero, suc, ◌+◌, ◌-◌, ◌<◌, ◌≤◌, min, cond, eqb, List, [], ◌∷◌, ◌++◌, length, get_or, take, drop, sym, ap, ◌∙◌, inl, inr, arith, length-take-le, take_all}
 use Rattle.std.proofs.lemmas.List.{at_drop_more, at_drop_all}
 use Rattle.std.proofs.lemmas.Bool.{cases_lt, cond-true, cond-false, eq-eqb, ne_eqb}
-use Rattle.inspect.specs.Lines.{lineEnd}
+use Rattle.inspect.specs.Lines.{line_end_at}
 
 module _ (b : List ℕ) (i : ℕ) where
-  ends_at : i < length b → lineEnd (drop i b) ≡ cond (eqb (get_or b i 0) 10) 0 (1 + lineEnd (drop (i + 1) b))
-  ends_at h = at_drop_more lineEnd b i 0 h
+  ends_at : i < length b → line_end_at (drop i b) ≡ cond (eqb (get_or b i 0) 10) 0 (1 + line_end_at (drop (i + 1) b))
+  ends_at h = at_drop_more line_end_at b i 0 h
 
-  pub ends-here : i < length b → get_or b i 0 ≡ 10 → lineEnd (drop i b) ≡ 0
-  ends-here h e = ends_at h ∙ cond-true _ _ _ (eq-eqb (get_or b i 0) 10 e)
+  pub ends_here : i < length b → get_or b i 0 ≡ 10 → line_end_at (drop i b) ≡ 0
+  ends_here h e = ends_at h ∙ cond-true _ _ _ (eq-eqb (get_or b i 0) 10 e)
 
-  pub ends-later : i < length b → (get_or b i 0 ≡ 10 → ⊥) → lineEnd (drop i b) ≡ 1 + lineEnd (drop (i + 1) b)
-  ends-later h e = ends_at h ∙ cond-false _ _ _ (ne_eqb (get_or b i 0) 10 e)
+  pub ends_later : i < length b → (get_or b i 0 ≡ 10 → ⊥) → line_end_at (drop i b) ≡ 1 + line_end_at (drop (i + 1) b)
+  ends_later h e = ends_at h ∙ cond-false _ _ _ (ne_eqb (get_or b i 0) 10 e)
 
-  pub ends_nowhere : length b ≤ i → lineEnd (drop i b) ≡ 0
-  ends_nowhere h = at_drop_all lineEnd b i h
+  pub ends_nowhere : length b ≤ i → line_end_at (drop i b) ≡ 0
+  ends_nowhere h = at_drop_all line_end_at b i h
 
 take_behind : (xs ys : List ℕ) (n k : ℕ) → n ≡ length xs + k → take n (xs ++ ys) ≡ xs ++ take k ys
 take_behind [] ys n k e = let f : n ≡ k = omega arith in ap (λ j. take j ys) f

@@ -1,7 +1,7 @@
 -- A message that names another kind than the one that it is read as.
 use Rattle.std.proofs.Common.{◌≡◌, ℕ, Bool, true, false, cond, ◌&&◌, eqb, leb, List, length, get_or, Err, Result, refl, ap}
 use Rattle.std.proofs.lemmas.Bool.{ne_eqb}
-use Rattle.gossip.specs.Format.{decode, decodeHead}
+use Rattle.gossip.specs.Format.{decode, decode_head}
 use Rattle.gossip.specs.Lattices.{Kind}
 use Rattle.gossip.specs.Refusals.{unless, and_then}
 use Rattle.inspect.specs.Kinds.{nameless}
@@ -13,6 +13,6 @@ third f rest true true c d e = ap (λ t. and_then (cond (t && d) rest (Err 22)) 
 third f rest true false c d e = refl
 third f rest false b c d e = refl
 
-pub refused-nameless : (k : Kind) (b : List ℕ) → (get_or b 1 0 ≡ k.number → ⊥) → decode k b ≡ nameless b
-unfolding decode decodeHead
-refused-nameless k b h = third _ _ (leb 24 (length b)) (eqb (get_or b 0 0) 1) (eqb (get_or b 1 0) k.number) _ (ne_eqb (get_or b 1 0) k.number h)
+pub refused_nameless : (k : Kind) (b : List ℕ) → (get_or b 1 0 ≡ k.number → ⊥) → decode k b ≡ nameless b
+unfolding decode decode_head
+refused_nameless k b h = third _ _ (leb 24 (length b)) (eqb (get_or b 0 0) 1) (eqb (get_or b 1 0) k.number) _ (ne_eqb (get_or b 1 0) k.number h)

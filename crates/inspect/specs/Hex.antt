@@ -1,7 +1,7 @@
 -- Hexadecimal digits, and the bytes that they spell.
 --
 -- digit c          the value of a digit of either case, by its code
--- isDigit c        it is one
+-- is_digit c        it is one
 -- pairs cs         the bytes that digits spell, two to a byte
 use Rattle.std.specs.Prelude.{ℕ, ◌+◌, ◌-◌, ◌*◌, Bool, cond, ◌&&◌, List, [], ◌∷◌, is_some, Some, None, Option, nat_le}
 use Rattle.std.specs.Option.{unwrap_or}
@@ -17,8 +17,8 @@ digit c =
     (cond (between 65 70 c) (Some (c - 65 + 10))
     None))
 
-abbrev pub isDigit : ℕ → Bool
-isDigit c = is_some (digit c)
+abbrev pub is_digit : ℕ → Bool
+is_digit c = is_some (digit c)
 
 abbrev pub byte : ℕ → ℕ → ℕ
 byte high low = 16 * unwrap_or (digit high) 0 + unwrap_or (digit low) 0

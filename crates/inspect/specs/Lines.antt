@@ -1,6 +1,6 @@
 -- What a line of input is.
 --
--- lineEnd b     how many bytes stand before the first line end
+-- line_end_at b     how many bytes stand before the first line end
 -- trimmed l     a line without the carriage return at its end
 -- spelled cs    the bytes that digits spell, or the first thing that is wrong with them
 -- line_of l      what a line is, or what is wrong with it
@@ -10,16 +10,16 @@
 -- Decisive k    a line that was cut after 6,642 bytes, with k left of it, is what k is
 use Rattle.std.specs.Prelude.{◌≡◌, ℕ, ◌+◌, ◌-◌, ◌%◌, ◌≤◌, cond, List, [], ◌∷◌, length, take, Ok, Err, codes, Result, ◌==◌, nat_le, slice_index}
 use Rattle.gossip.specs.Numbers.{every}
-use Rattle.inspect.specs.Hex.{isDigit, pairs}
+use Rattle.inspect.specs.Hex.{is_digit, pairs}
 use Rattle.inspect.specs.declared.line.Line.{Line}
 use Rattle.inspect.specs.declared.line.Line.TheVariants.{Blank, Note, Message}
 use Rattle.inspect.specs.declared.line.Fault.{Fault}
 use Rattle.inspect.specs.declared.line.Fault.TheVariants.{Long, NotHex, Odd}
 
 -- the code of a line end is 10
-abbrev pub lineEnd : List ℕ → ℕ
-lineEnd [] = 0
-lineEnd (b ∷ bs) = cond (b == 10) 0 (1 + lineEnd bs)
+abbrev pub line_end_at : List ℕ → ℕ
+line_end_at [] = 0
+line_end_at (b ∷ bs) = cond (b == 10) 0 (1 + line_end_at bs)
 
 -- the code of a carriage return is 13
 abbrev pub trimmed : List ℕ → List ℕ
@@ -29,7 +29,7 @@ trimmed l = cond (slice_index l (length l - 1) == 13) (take (length l - 1) l) l
 abbrev pub spelled : List ℕ → Result (List ℕ) Fault
 spelled cs =
     cond (nat_le (length cs) 6640)
-    (cond (every isDigit cs)
+    (cond (every is_digit cs)
     (cond (length cs % 2 == 0)
     (Ok (pairs cs))
     (Err Odd))
@@ -45,24 +45,24 @@ abbrev pub found : Result (List ℕ) Fault → List ℕ
 found (Ok b) = b
 found (Err e) = []
 
-abbrev pub asMessage : Result ℕ Fault → Result Line Fault
-asMessage (Ok n) = Ok (Message n)
-asMessage (Err e) = Err e
+abbrev pub as_message : Result ℕ Fault → Result Line Fault
+as_message (Ok n) = Ok (Message n)
+as_message (Err e) = Err e
 
 -- a line without its carriage return; the code of '#' is 35
 abbrev pub text_of : List ℕ → Result Line Fault
 text_of [] = Ok Blank
-text_of (c ∷ cs) = cond (c == 35) (Ok Note) (asMessage (counted (spelled (c ∷ cs))))
+text_of (c ∷ cs) = cond (c == 35) (Ok Note) (as_message (counted (spelled (c ∷ cs))))
 
-abbrev pub textBytes : List ℕ → List ℕ
-textBytes [] = []
-textBytes (c ∷ cs) = cond (c == 35) [] (found (spelled (c ∷ cs)))
+abbrev pub text_bytes : List ℕ → List ℕ
+text_bytes [] = []
+text_bytes (c ∷ cs) = cond (c == 35) [] (found (spelled (c ∷ cs)))
 
 abbrev pub line_of : List ℕ → Result Line Fault
 line_of l = text_of (trimmed l)
 
 abbrev pub bytes_of : List ℕ → List ℕ
-bytes_of l = textBytes (trimmed l)
+bytes_of l = text_bytes (trimmed l)
 
 abbrev pub Roomy : Line → Type 0
 Roomy Blank = Unit {0}

@@ -1,10 +1,10 @@
 -- Messages as text.
 --
 -- spaced ps         numbers in decimal, parted by one space
--- entryText n e     an entry of a message among n replicas
--- entriesText n es  its entries, each behind a line end
--- headText k h      the head of a message of the kind numbered k
--- messageText k m   a message of the kind numbered k: a line on its head, and a line on each entry
+-- entry_text n e     an entry of a message among n replicas
+-- entries_text n es  its entries, each behind a line end
+-- head_text k h      the head of a message of the kind numbered k
+-- message_text k m   a message of the kind numbered k: a line on its head, and a line on each entry
 use Rattle.std.specs.Prelude.{ℕ, List, [], ◌∷◌, ◌++◌, length, take, codes, decimal}
 use Rattle.gossip.specs.Messages.{Message}
 use Rattle.gossip.specs.Numbers.{joined}
@@ -17,18 +17,18 @@ abbrev pub spaced : List ℕ → List ℕ
 spaced [] = []
 spaced (p ∷ ps) = decimal p ++ joined (λ q. codes " " ++ decimal q) ps
 
-abbrev pub stateText : ℕ → State → List ℕ
-stateText n (Value v) = codes " value " ++ decimal v
-stateText n (Tombstone t s) = codes " deleted " ++ (decimal t ++ (codes " timestamp " ++ spaced (take n s.parts)))
+abbrev pub state_text : ℕ → State → List ℕ
+state_text n (Value v) = codes " value " ++ decimal v
+state_text n (Tombstone t s) = codes " deleted " ++ (decimal t ++ (codes " timestamp " ++ spaced (take n s.parts)))
 
-abbrev pub entryText : ℕ → Entry → List ℕ
-entryText n e = codes "seat " ++ (decimal e.seat ++ stateText n e.state)
+abbrev pub entry_text : ℕ → Entry → List ℕ
+entry_text n e = codes "seat " ++ (decimal e.seat ++ state_text n e.state)
 
-abbrev pub entriesText : ℕ → List Entry → List ℕ
-entriesText n es = joined (λ e. codes "\n" ++ entryText n e) es
+abbrev pub entries_text : ℕ → List Entry → List ℕ
+entries_text n es = joined (λ e. codes "\n" ++ entry_text n e) es
 
-abbrev pub startText : ℕ → Head → List ℕ → List ℕ
-startText k h parts =
+abbrev pub start_text : ℕ → Head → List ℕ → List ℕ
+start_text k h parts =
     codes "gossip kind " ++ (decimal k
     ++ (codes " n " ++ (decimal h.n
     ++ (codes " sender " ++ (decimal h.sender
@@ -36,11 +36,11 @@ startText k h parts =
     ++ (codes " clock " ++ (decimal h.clock
     ++ (codes " timestamp " ++ spaced parts))))))))))
 
-abbrev pub headText : ℕ → Head → List ℕ
-headText k h = startText k h (take h.n h.timestamp.parts)
+abbrev pub head_text : ℕ → Head → List ℕ
+head_text k h = start_text k h (take h.n h.timestamp.parts)
 
-abbrev pub wholeText : ℕ → Head → List Entry → List ℕ
-wholeText k h es = headText k h ++ (codes " entries " ++ (decimal (length es) ++ entriesText h.n es))
+abbrev pub whole_text : ℕ → Head → List Entry → List ℕ
+whole_text k h es = head_text k h ++ (codes " entries " ++ (decimal (length es) ++ entries_text h.n es))
 
-abbrev pub messageText : ℕ → Message → List ℕ
-messageText k m = wholeText k m.head m.entries
+abbrev pub message_text : ℕ → Message → List ℕ
+message_text k m = whole_text k m.head m.entries

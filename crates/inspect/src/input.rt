@@ -1,6 +1,6 @@
 // Lines of input, read in blocks. Of a long line no more is kept than decides what it is.
 ghost use Rattle.std.specs.Prelude.{◌≡◌, ◌≤◌, ◌++◌, length, take};
-ghost use Rattle.inspect.specs.Lines.{lineEnd};
+ghost use Rattle.inspect.specs.Lines.{line_end_at};
 
 use crate::line::KEPT;
 use std::io;
@@ -59,7 +59,7 @@ impl<R: Read> Lines<R> {
 
 // Where the first line of the bytes ends.
 fn line_end(bytes: &[u8]) -> usize
-    ensures answer { result ≡ lineEnd bytes.now }
+    ensures answer { result ≡ line_end_at bytes.now }
     ensures within { result ≤ length bytes.now }
 {
     for (i, b) in bytes.iter().enumerate() {

@@ -3,7 +3,7 @@ ghost use Rattle.std.specs.Prelude.{◌≡◌, ◌≢◌, slice_index};
 ghost use Rattle.gossip.specs.Contents.{contents};
 ghost use Rattle.gossip.specs.Format.{decode};
 ghost use Rattle.gossip.specs.Refusals.{outcome};
-ghost use Rattle.inspect.specs.Kinds.{kind_of, latticeOf, nameless};
+ghost use Rattle.inspect.specs.Kinds.{kind_of, lattice_of, nameless};
 
 use gossip::{Counts, Gossip, Lattice, Ports, Refusal};
 
@@ -33,7 +33,7 @@ impl Kind {
 
     // The kind's number in messages.
     pub fn number(self) -> u8
-        ensures answer { result ≡ (latticeOf self).number }
+        ensures answer { result ≡ (lattice_of self).number }
     {
         match self {
             Kind::Counts => Counts::number(),
@@ -43,8 +43,8 @@ impl Kind {
 
     // The message of this kind that the bytes spell, or the first rule that they break: for bytes that name another kind, one of the first three.
     pub fn read(self, bytes: &[u8]) -> Result<Gossip, Refusal>
-        ensures answer { outcome contents result ≡ decode (latticeOf self) bytes.now }
-        ensures nameless { (slice_index bytes.now 1 ≢ (latticeOf self).number) → outcome contents result ≡ nameless bytes.now }
+        ensures answer { outcome contents result ≡ decode (lattice_of self) bytes.now }
+        ensures nameless { (slice_index bytes.now 1 ≢ (lattice_of self).number) → outcome contents result ≡ nameless bytes.now }
     {
         match self {
             Kind::Counts => Gossip::read::<Counts>(bytes),

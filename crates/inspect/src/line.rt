@@ -1,7 +1,7 @@
 // A line of input: what it is, and the bytes that its hexadecimal digits spell.
 ghost use Rattle.std.specs.Prelude.{◌≡◌, ◌*◌, ◌≤◌, true, length, IfOk, Some};
 ghost use Rattle.gossip.specs.Numbers.{every, put_at};
-ghost use Rattle.inspect.specs.Hex.{digit, isDigit, pairs};
+ghost use Rattle.inspect.specs.Hex.{digit, is_digit, pairs};
 ghost use Rattle.inspect.specs.Lines.{trimmed, spelled, counted, found, line_of, bytes_of, Roomy, Decisive, cause};
 
 use gossip::ROOM;
@@ -112,7 +112,7 @@ fn read_hex(digits: &[u8], buffer: &mut [u8; ROOM]) -> Result<usize, Fault>
 
 // Whether each character is a hexadecimal digit.
 fn are_digits(text: &[u8]) -> bool
-    ensures { result ≡ every isDigit text.now }
+    ensures { result ≡ every is_digit text.now }
 {
     for c in text {
         if value(*c).is_none() {
@@ -136,7 +136,7 @@ fn value(c: u8) -> Option<u8>
 
 // Writes the bytes that pairs of digits spell to the front of the buffer.
 fn write_bytes(digits: &[u8], buffer: &mut [u8])
-    requires digits { every isDigit digits.now ≡ true }
+    requires digits { every is_digit digits.now ≡ true }
     requires room { length digits.now ≤ 2 * length buffer.old }
     ensures { buffer.new ≡ put_at 0 (pairs digits.now) buffer.old }
 {

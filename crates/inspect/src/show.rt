@@ -1,7 +1,7 @@
 // A message as text.
 ghost use Rattle.std.specs.Prelude.{Some};
 ghost use Rattle.gossip.specs.Contents.{contents};
-ghost use Rattle.inspect.specs.Texts.{spaced, headText, entryText, entriesText, messageText};
+ghost use Rattle.inspect.specs.Texts.{spaced, head_text, entry_text, entries_text, message_text};
 
 use gossip::{Entry, Gossip, Head, State};
 use std::fmt;
@@ -14,7 +14,7 @@ pub struct Shown<'a> {
 }
 
 impl fmt::Display for Shown<'_> {
-    ghost output = { λ x. Some (messageText x.kind (contents x.gossip.now)) };
+    ghost output = { λ x. Some (message_text x.kind (contents x.gossip.now)) };
 
     fn fmt<W: fmt::Write>(&self, f: &mut fmt::Formatter<W>) -> fmt::Result {
         let head = self.gossip.head();
@@ -37,7 +37,7 @@ struct Start<'a> {
 }
 
 impl fmt::Display for Start<'_> {
-    ghost output = { λ x. Some (headText x.kind x.head.now) };
+    ghost output = { λ x. Some (head_text x.kind x.head.now) };
 
     fn fmt<W: fmt::Write>(&self, f: &mut fmt::Formatter<W>) -> fmt::Result {
         let kind = self.kind;
@@ -61,7 +61,7 @@ struct Entries<'a> {
 }
 
 impl fmt::Display for Entries<'_> {
-    ghost output = { λ x. Some (entriesText x.n x.list.now) };
+    ghost output = { λ x. Some (entries_text x.n x.list.now) };
 
     fn fmt<W: fmt::Write>(&self, f: &mut fmt::Formatter<W>) -> fmt::Result {
         let n = self.n;
@@ -81,7 +81,7 @@ struct EntryLine<'a> {
 }
 
 impl fmt::Display for EntryLine<'_> {
-    ghost output = { λ x. Some (entryText x.n x.entry.now) };
+    ghost output = { λ x. Some (entry_text x.n x.entry.now) };
 
     fn fmt<W: fmt::Write>(&self, f: &mut fmt::Formatter<W>) -> fmt::Result {
         let seat = self.entry.seat;

@@ -3,11 +3,11 @@ use Rattle.std.proofs.Common.{◌≡◌, ℕ, zero, suc, Bool, true, List, [], �
 use Rattle.std.proofs.lemmas.Bool.{and_parts, and_from, cases_Bool}
 use Rattle.gossip.specs.Numbers.{every}
 
-pub every-weaker : {X : Type 0} (p q : X → Bool) (xs : List X) → ((x : X) → p x ≡ true → q x ≡ true) → every p xs ≡ true → every q xs ≡ true
-every-weaker p q [] w e = refl
-every-weaker p q (x ∷ xs) w e =
+pub every_weaker : {X : Type 0} (p q : X → Bool) (xs : List X) → ((x : X) → p x ≡ true → q x ≡ true) → every p xs ≡ true → every q xs ≡ true
+every_weaker p q [] w e = refl
+every_weaker p q (x ∷ xs) w e =
     let a = and_parts (p x) (every p xs) e in
-    and_from (q x) _ (w x a.0) (every-weaker p q xs w a.1)
+    and_from (q x) _ (w x a.0) (every_weaker p q xs w a.1)
 
 module _ {X : Type 0} (p : X → Bool) where
   pub every_set : (xs : List X) (i : ℕ) (y : X) → every p xs ≡ true → p y ≡ true → every p (set xs i y) ≡ true
@@ -17,11 +17,11 @@ module _ {X : Type 0} (p : X → Bool) where
       let a = and_parts (p x) (every p xs) e in
       and_from (p x) _ a.0 (every_set xs i y a.1 f)
 
-  pub every-kept : (q : X → Bool) (xs : List X) → every p xs ≡ true → every p (filter q xs) ≡ true
-  every-kept q [] e = refl
-  every-kept q (x ∷ xs) e =
+  pub every_kept : (q : X → Bool) (xs : List X) → every p xs ≡ true → every p (filter q xs) ≡ true
+  every_kept q [] e = refl
+  every_kept q (x ∷ xs) e =
       let a = and_parts (p x) (every p xs) e in
       ⊎_elim
-      (λ t. rw t (and_from (p x) _ a.0 (every-kept q xs a.1)))
-      (λ t. rw t (every-kept q xs a.1))
+      (λ t. rw t (and_from (p x) _ a.0 (every_kept q xs a.1)))
+      (λ t. rw t (every_kept q xs a.1))
       (cases_Bool (q x))

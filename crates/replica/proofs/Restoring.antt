@@ -7,24 +7,24 @@ use Rattle.gossip.specs.Refusals.{and_then, unless}
 use Rattle.gossip.specs.declared.entry.Entry.{Entry}
 use Rattle.gossip.specs.declared.head.Head.{Head}
 use Rattle.gossip.specs.declared.timestamp.Timestamp.{Timestamp}
-use Rattle.gossip.proofs.Unless.{passed, unless-ok, andThen-ok}
+use Rattle.gossip.proofs.Unless.{passed, unless_ok, and_then_ok}
 use Rattle.checkpoint.specs.Checkpoints.{Saved}
-use Rattle.checkpoint.specs.Format.{decodeSaved}
+use Rattle.checkpoint.specs.Format.{decode_saved}
 use Rattle.checkpoint.proofs.FormatTheorems as format
 use Rattle.table.specs.Entries.{merge}
 use Rattle.table.specs.Refusals as table
 use Rattle.table.specs.declared.full.Full.{Full}
 use Rattle.table.proofs.Merges.{merge_none}
 use Rattle.table.proofs.Room.{done}
-use Rattle.replica.specs.Memories.{Memory, savedOf, memoryOf}
-use Rattle.replica.specs.Restoring.{isOwn, decodeMemory, encodeMemory}
+use Rattle.replica.specs.Memories.{Memory, saved_of, memory_of}
+use Rattle.replica.specs.Restoring.{is_own, decode_memory, encode_memory}
 use Rattle.replica.specs.StepLaws.{Restores}
 use Rattle.replica.specs.declared.membership.Membership.{Membership}
 use Rattle.replica.proofs.Taken.{same_memory}
 
 -- a checkpoint of this replica says no more than its memory
-own-saved : (p : Membership) (c : Saved) → isOwn p c ≡ true → savedOf p (memoryOf c) ≡ c
-own-saved p c o =
+own_saved : (p : Membership) (c : Saved) → is_own p c ≡ true → saved_of p (memory_of c) ≡ c
+own_saved p c o =
     let a = and_parts (eqb c.message.head.group p.group) _ o in
     let b = and_parts (eqb c.message.head.n p.n) _ a.1 in
     let group = sym (eqb-true _ _ a.0) in
@@ -35,33 +35,33 @@ own-saved p c o =
       rows = c.rows;
     }
 
-saved-own : (p : Membership) (m : Memory) → isOwn p (savedOf p m) ≡ true
-saved-own p m = and_from _ _ (eq-eqb p.group _ refl) (and_from _ _ (eq-eqb p.n _ refl) (eq-eqb p.replica _ refl))
+saved_own : (p : Membership) (m : Memory) → is_own p (saved_of p m) ≡ true
+saved_own p m = and_from _ _ (eq-eqb p.group _ refl) (and_from _ _ (eq-eqb p.n _ refl) (eq-eqb p.replica _ refl))
 
 -- the checkpoint behind a memory that was read
-read-saved : (k : Kind) (p : Membership) (b : List ℕ) (m : Memory) → decodeMemory k p b ≡ Ok m → decodeSaved k b ≡ Ok (savedOf p m)
-read-saved k p b m e =
-    let a = andThen-ok (decodeSaved k b) (λ c. unless (isOwn p c) 0 (Ok (memoryOf c))) m e in
-    let d = unless-ok (isOwn p a.0) 0 (Ok (memoryOf a.0)) m a.2 in
-    let f : memoryOf a.0 ≡ m = cc d.1 in
-    a.1 ∙ ap Ok (sym (own-saved p a.0 d.0) ∙ ap (savedOf p) f)
+read_saved : (k : Kind) (p : Membership) (b : List ℕ) (m : Memory) → decode_memory k p b ≡ Ok m → decode_saved k b ≡ Ok (saved_of p m)
+read_saved k p b m e =
+    let a = and_then_ok (decode_saved k b) (λ c. unless (is_own p c) 0 (Ok (memory_of c))) m e in
+    let d = unless_ok (is_own p a.0) 0 (Ok (memory_of a.0)) m a.2 in
+    let f : memory_of a.0 ≡ m = cc d.1 in
+    a.1 ∙ ap Ok (sym (own_saved p a.0 d.0) ∙ ap (saved_of p) f)
 
 -- and the other way
-saved_read : (k : Kind) (p : Membership) (b : List ℕ) (c : Saved) → decodeSaved k b ≡ Ok c → isOwn p c ≡ true → decodeMemory k p b ≡ Ok (memoryOf c)
-saved_read k p b c e o = ap (λ r. and_then r (λ c. unless (isOwn p c) 0 (Ok (memoryOf c)))) e ∙ passed _ 0 _ _ o refl
+saved_read : (k : Kind) (p : Membership) (b : List ℕ) (c : Saved) → decode_saved k b ≡ Ok c → is_own p c ≡ true → decode_memory k p b ≡ Ok (memory_of c)
+saved_read k p b c e o = ap (λ r. and_then r (λ c. unless (is_own p c) 0 (Ok (memory_of c)))) e ∙ passed _ 0 _ _ o refl
 
-pub own_read : (k : Kind) (p : Membership) (b : List ℕ) (m : Memory) → decodeSaved k b ≡ Ok (savedOf p m) → decodeMemory k p b ≡ Ok m
-own_read k p b m e = saved_read k p b (savedOf p m) e (saved-own p m)
+pub own_read : (k : Kind) (p : Membership) (b : List ℕ) (m : Memory) → decode_saved k b ≡ Ok (saved_of p m) → decode_memory k p b ≡ Ok m
+own_read k p b m e = saved_read k p b (saved_of p m) e (saved_own p m)
 
 pub restores : Restores
 restores = record {
-  back = λ k laws p m s f. own_read k p (encodeMemory k p m) m (format.reads-back k laws (savedOf p m) s f);
-  sole = λ k p b m y e. format.sole-spelling k b (savedOf p m) y (read-saved k p b m e);
-  reads-sound = λ k p b m y e. format.reads-sound k b (savedOf p m) y (read-saved k p b m e);
+  back = λ k laws p m s f. own_read k p (encode_memory k p m) m (format.reads_back k laws (saved_of p m) s f);
+  sole = λ k p b m y e. format.sole_spelling k b (saved_of p m) y (read_saved k p b m e);
+  reads_sound = λ k p b m y e. format.reads_sound k b (saved_of p m) y (read_saved k p b m e);
 }
 
 -- a table that was emptied holds a message's entries once it has taken them in
-pub loaded : (join : ℕ → ℕ → ℕ) (fs before es : List Entry) (r : Result (Unit {0}) Full) → before ≡ [] → (rises (seats fs) ≡ true) × (length fs ≤ 64) → table.outcome r ≡ table.ifFits (merge join before fs)
+pub loaded : (join : ℕ → ℕ → ℕ) (fs before es : List Entry) (r : Result (Unit {0}) Full) → before ≡ [] → (rises (seats fs) ≡ true) × (length fs ≤ 64) → table.outcome r ≡ table.if_fits (merge join before fs)
     → es ≡ cond (is_ok r) (merge join before fs) before → es ≡ fs
 loaded join fs before es r none told q e =
     let m : merge join before fs ≡ fs = ap (λ z. merge join z fs) none ∙ merge_none join fs told.0 in
@@ -69,10 +69,10 @@ loaded join fs before es r none told q e =
     e ∙ cond-true _ _ _ (done r _ q (omega (arith, ap length m))) ∙ m
 
 -- the fields that are written one by one hold what the checkpoint says
-pub restored-is : (k : Kind) (p : Membership) (b : List ℕ) (s : Saved) (g : Message) (h : Head) (es : List Entry) (rows : List Timestamp) → Ok s ≡ decodeSaved k b → g ≡ s.message → h ≡ g.head
+pub restored_is : (k : Kind) (p : Membership) (b : List ℕ) (s : Saved) (g : Message) (h : Head) (es : List Entry) (rows : List Timestamp) → Ok s ≡ decode_saved k b → g ≡ s.message → h ≡ g.head
     → (eqb h.group p.group && (eqb h.n p.n && eqb h.sender p.replica)) ≡ true → es ≡ g.entries → rows ≡ s.rows
-    → decodeMemory k p b ≡ Ok (record { clock = h.clock; timestamp = h.timestamp; entries = es; rows = rows })
-restored-is k p b s g h es rows d a e o f q =
+    → decode_memory k p b ≡ Ok (record { clock = h.clock; timestamp = h.timestamp; entries = es; rows = rows })
+restored_is k p b s g h es rows d a e o f q =
     let head = e ∙ ap (λ (x : Message). x.head) a in
     let own = ap (λ (x : Head). eqb x.group p.group && (eqb x.n p.n && eqb x.sender p.replica)) (sym head) ∙ o in
     saved_read k p b s (sym d) own

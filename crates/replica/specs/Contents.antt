@@ -1,7 +1,7 @@
 -- What the code's replica means.
 --
 -- memory r             what a replica knows
--- changeOf, receiptOf, replyOf   the code's answers in the words of the rule
+-- change_of, receipt_of, reply_of   the code's answers in the words of the rule
 -- Took s before r then    what a call that takes the step s promises: it answers r, the step's answer or its refusal, and leaves the step's memory and the membership
 use Rattle.std.specs.Prelude.{◌≡◌, ℕ, Result}
 use Rattle.table.specs.Contents.{contents}
@@ -18,18 +18,18 @@ use Rattle.replica.specs.declared.replica.Replica.{Replica}
 unfoldable pub memory : Replica → Memory
 memory r = record { clock = r.clock; timestamp = r.timestamp; entries = contents r.table; rows = r.rows }
 
-abbrev pub changeOf : Change → Answer
-changeOf (Set t) = set t
-changeOf (Same t) = same t
+abbrev pub change_of : Change → Answer
+change_of (Set t) = set t
+change_of (Same t) = same t
 
-abbrev pub receiptOf : Receipt → Answer
-receiptOf Old = old
-receiptOf (New t) = new t
+abbrev pub receipt_of : Receipt → Answer
+receipt_of Old = old
+receipt_of (New t) = new t
 
-abbrev pub replyOf : Lookup → Reply
-replyOf (Known v t) = known v t
-replyOf (Unknown t) = unknown t
-replyOf Behind = behind
+abbrev pub reply_of : Lookup → Reply
+reply_of (Known v t) = known v t
+reply_of (Unknown t) = unknown t
+reply_of Behind = behind
 
 pub record Took (s : Result Step ℕ) (before : Replica) (r : Result Answer ℕ) (then : Replica) : Type 0 where
   pub answer : r ≡ answered s

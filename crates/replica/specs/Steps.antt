@@ -1,12 +1,12 @@
 -- The rule of one replica: what each step answers and leaves, or the number that refuses it, in the order of the refusals.
 --
--- clockNow m c       the later of the replica's clock and the reading c given
--- isLate p m t c     the time t and the grace end before the clock now
+-- clock_now m c       the later of the replica's clock and the reading c given
+-- is_late p m t c     the time t and the grace end before the clock now
 -- raised p m         the timestamp with one more in the replica's own part
 -- raise p m u x      that timestamp, for a change that gives the seat u the state x; or 6 or 7
 -- stored p m c u x   the seat u has the state x, as an accepted change of this replica
 -- entered k x o      the state that an enter of the value x gives a seat of which o is known; none where nothing changes
--- hasTombstone o     a tombstone is known of a seat
+-- has_tombstone o     a tombstone is known of a seat
 -- deleted x o        the state that a delete gives it, the tombstone x; none where nothing changes
 -- enter, delete, receive, sweep   a step each
 -- hear               a message that is read already
@@ -29,11 +29,11 @@ use Rattle.replica.specs.Answers.{Answer, set, same, old, new, swept, Step, Repl
 use Rattle.replica.specs.Memories.{Memory}
 use Rattle.replica.specs.declared.membership.Membership.{Membership}
 
-abbrev pub clockNow : Memory → ℕ → ℕ
-clockNow m c = max m.clock c
+abbrev pub clock_now : Memory → ℕ → ℕ
+clock_now m c = max m.clock c
 
-abbrev pub isLate : Membership → Memory → ℕ → ℕ → Bool
-isLate p m t c = nat_lt (t + p.grace) (clockNow m c)
+abbrev pub is_late : Membership → Memory → ℕ → ℕ → Bool
+is_late p m t c = nat_lt (t + p.grace) (clock_now m c)
 
 -- nothing changes
 abbrev pub stays : Memory → Answer → Result Step ℕ
@@ -51,15 +51,15 @@ raise p m u x =
     (Ok (raised p m)))
 
 abbrev pub stored : Membership → Memory → ℕ → ℕ → State → Timestamp → Memory
-stored p m c u x s = record { clock = clockNow m c; timestamp = s; entries = put m.entries u x; rows = update m.rows p.replica s }
+stored p m c u x s = record { clock = clock_now m c; timestamp = s; entries = put m.entries u x; rows = update m.rows p.replica s }
 
 abbrev pub change : Membership → Memory → ℕ → ℕ → State → Result Step ℕ
 change p m c u x = and_then (raise p m u x) (λ s. Ok (record { answer = set s; memory = stored p m c u x s }))
 
 -- the change of a seat's state, if there is one
-abbrev pub changeTo : Membership → Memory → ℕ → ℕ → Option State → Result Step ℕ
-changeTo p m c u None = stays m (same m.timestamp)
-changeTo p m c u (Some x) = change p m c u x
+abbrev pub change_to : Membership → Memory → ℕ → ℕ → Option State → Result Step ℕ
+change_to p m c u None = stays m (same m.timestamp)
+change_to p m c u (Some x) = change p m c u x
 
 -- Enter: a tombstone, or a join equal to the value held, stays as it is.
 
@@ -72,24 +72,24 @@ abbrev pub enter : Kind → Membership → Memory → ℕ → ℕ → ℕ → �
 enter k p m u x t c =
     unless (nat_le t latest && nat_le c latest) 4
     (unless (k.valid x) 3
-    (unless (not (isLate p m t c)) 5
-    (changeTo p m c u (entered k x (find m.entries u)))))
+    (unless (not (is_late p m t c)) 5
+    (change_to p m c u (entered k x (find m.entries u)))))
 
 -- Delete: a tombstone stays as it is.
 
-abbrev pub hasTombstone : Option State → Bool
-hasTombstone None = false
-hasTombstone (Some (Value y)) = false
-hasTombstone (Some (Tombstone t s)) = true
+abbrev pub has_tombstone : Option State → Bool
+has_tombstone None = false
+has_tombstone (Some (Value y)) = false
+has_tombstone (Some (Tombstone t s)) = true
 
 abbrev pub deleted : State → Option State → Option State
-deleted x o = cond (hasTombstone o) None (Some x)
+deleted x o = cond (has_tombstone o) None (Some x)
 
 abbrev pub delete : Membership → Memory → ℕ → ℕ → ℕ → Result Step ℕ
 delete p m u t c =
     unless (nat_le t latest && nat_le c latest) 4
-    (unless (not (isLate p m t c)) 5
-    (changeTo p m c u (deleted (Tombstone t (raised p m)) (find m.entries u))))
+    (unless (not (is_late p m t c)) 5
+    (change_to p m c u (deleted (Tombstone t (raised p m)) (find m.entries u))))
 
 -- Receive: a message at or under the replica's timestamp has no news.
 
@@ -101,7 +101,7 @@ together s t = record { parts = merged s.parts t.parts }
 abbrev pub learnt : Kind → Membership → Memory → Message → ℕ → Memory
 learnt k p m g c =
     record {
-      clock = clockNow m c;
+      clock = clock_now m c;
       timestamp = together m.timestamp g.head.timestamp;
       entries = merge k.join m.entries g.entries;
       rows = update (update m.rows g.head.sender (together (row m.rows g.head.sender) g.head.timestamp)) p.replica (together m.timestamp g.head.timestamp);
@@ -122,20 +122,20 @@ abbrev pub receive : Kind → Membership → Memory → Message → ℕ → Resu
 receive k p m g c = unless (nat_le c latest) 4 (hear k p m g c)
 
 -- a message as bytes
-abbrev pub receiveBytes : Kind → Membership → Memory → List ℕ → ℕ → Result Step ℕ
-receiveBytes k p m b c = unless (nat_le c latest) 4 (and_then (decode k b) (λ g. hear k p m g c))
+abbrev pub receive_bytes : Kind → Membership → Memory → List ℕ → ℕ → Result Step ℕ
+receive_bytes k p m b c = unless (nat_le c latest) 4 (and_then (decode k b) (λ g. hear k p m g c))
 
 -- Sweep: each tombstone goes whose time and grace are over and whose timestamp every replica of the group is known to have passed.
 
 -- what a sweep at the clock reading c leaves
-abbrev pub sweptOf : Membership → Memory → ℕ → Memory
-sweptOf p m c =
-    record { clock = clockNow m c; timestamp = m.timestamp; entries = entries.swept p.grace (clockNow m c) (take p.n m.rows) m.entries; rows = m.rows }
+abbrev pub swept_of : Membership → Memory → ℕ → Memory
+swept_of p m c =
+    record { clock = clock_now m c; timestamp = m.timestamp; entries = entries.swept p.grace (clock_now m c) (take p.n m.rows) m.entries; rows = m.rows }
 
 abbrev pub sweep : Membership → Memory → ℕ → Result Step ℕ
 sweep p m c =
     unless (nat_le c latest) 4
-    (Ok (record { answer = swept (length (removable p.grace (clockNow m c) (take p.n m.rows) m.entries)); memory = sweptOf p m c }))
+    (Ok (record { answer = swept (length (removable p.grace (clock_now m c) (take p.n m.rows) m.entries)); memory = swept_of p m c }))
 
 -- All steps
 

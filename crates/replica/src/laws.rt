@@ -1,12 +1,12 @@
 // The theorems of this crate, one function each, so that a check asks for their proofs.
-ghost use Rattle.replica.specs.StepLaws.{Keeps-sound, Keeps-kind, Starts-sound, Restores};
+ghost use Rattle.replica.specs.StepLaws.{KeepsSound, KeepsKind, StartsSound, Restores};
 ghost use Rattle.replica.specs.WorkedCases.{WorkedCases};
 
 // A replica that knows nothing is sound, and every step leaves a sound replica, with values of the kind.
 pub fn steps_keep_replicas_sound()
-    ensures starts { Starts-sound }
-    ensures sound { Keeps-sound }
-    ensures kind { Keeps-kind }
+    ensures starts { StartsSound }
+    ensures sound { KeepsSound }
+    ensures kind { KeepsKind }
 {}
 
 // A replica is read back from its checkpoint; what reads as its checkpoint is a sound replica, and the only spelling of it.

@@ -19,15 +19,15 @@ moved_none saved n found e =
     }
 
 module _ (saved : List (List ℕ)) (n k : ℕ) (found : List (List ℕ)) (m : Moved saved n k found) where
-  pub moved-skip : get_or (set saved n []) k [] ≡ [] → Moved saved n (k + 1) found
-  moved-skip e =
+  pub moved_skip : get_or (set saved n []) k [] ≡ [] → Moved saved n (k + 1) found
+  moved_skip e =
       record {
         front = λ j lt. elim (cases_eq j k) [ inl s ↦ rw s (m.rest k (omega arith) ∙ sym e) | inr ne ↦ m.front j (omega arith) ];
         rest = λ j le. m.rest j (omega arith);
       }
 
-  pub moved-put : k < length found → k ≢ n → Moved saved n (k + 1) (set found k (get_or saved k []))
-  moved-put lt ne =
+  pub moved_put : k < length found → k ≢ n → Moved saved n (k + 1) (set found k (get_or saved k []))
+  moved_put lt ne =
       record {
         front = λ j l. elim (cases_eq j k) [
           | inl s ↦ rw s (get_or-set_same found k (get_or saved k []) [] lt ∙ sym (get_or-set_other saved n k [] [] ne))
@@ -40,12 +40,12 @@ module _ (saved : List (List ℕ)) (n k : ℕ) (found : List (List ℕ)) (m : Mo
   moved_all a b le = ext_get_or [] found (set saved n []) (b ∙ sym a ∙ sym (length-set saved n [])) (λ i lt. m.front i (omega arith))
 
 -- the number's own bytes are not moved
-pub own-empty : (saved : List (List ℕ)) (n : ℕ) → n < length saved → get_or (set saved n []) n [] ≡ []
-own-empty saved n lt = get_or-set_same saved n [] [] lt
+pub own_empty : (saved : List (List ℕ)) (n : ℕ) → n < length saved → get_or (set saved n []) n [] ≡ []
+own_empty saved n lt = get_or-set_same saved n [] [] lt
 
 -- nor those of a number with nothing saved
-pub none-empty : (saved : List (List ℕ)) (n k : ℕ) → k ≢ n → get_or saved k [] ≡ [] → get_or (set saved n []) k [] ≡ []
-none-empty saved n k ne e = get_or-set_other saved n k [] [] ne ∙ e
+pub none_empty : (saved : List (List ℕ)) (n k : ℕ) → k ≢ n → get_or saved k [] ≡ [] → get_or (set saved n []) k [] ≡ []
+none_empty saved n k ne e = get_or-set_other saved n k [] [] ne ∙ e
 
 -- the store s, when the bytes of the first k numbers of the half a are moved
 abbrev pub Turn : LogStore → Half → ℕ → ℕ → Type 0

@@ -3,21 +3,21 @@ use Rattle.std.proofs.Common.{◌≡◌, ℕ, ◌+◌, ◌-◌, ◌<◌, ◌≤�
 use Rattle.std.proofs.lemmas.List.{drop-drop, take_rest, length-take-le}
 use Rattle.std.proofs.lemmas.Bool.{cases_Bool, cond-true, cond-false}
 use Rattle.storage.specs.Logs.{size, sound}
-use Rattle.storage.specs.Scans.{run, run-stop, run_step, sound-front}
+use Rattle.storage.specs.Scans.{run, run_stop, run_step, sound-front}
 
 -- what stands behind the head at the front, as the code answers it
 abbrev pub body : List ℕ → Option ℕ
 body log = cond (sound log) (Some (size log)) None
 
-body-none : (log : List ℕ) → body log ≡ None → sound log ≡ false
-body-none log h =
+body_none : (log : List ℕ) → body log ≡ None → sound log ≡ false
+body_none log h =
     ⊎_elim (λ t.
     let e : Some (size log) ≡ None = sym (cond-true (sound log) (Some (size log)) None t) ∙ h in
     let no : ◌≡◌ {A = ℕ} 0 1 = cc in
     absurd (omega arith)) (λ f. f) (cases_Bool (sound log))
 
-body-some : (log : List ℕ) (n : ℕ) → Some n ≡ body log → (sound log ≡ true) × (size log ≡ n)
-body-some log n h =
+body_some : (log : List ℕ) (n : ℕ) → Some n ≡ body log → (sound log ≡ true) × (size log ≡ n)
+body_some log n h =
     ⊎_elim (λ t.
     let e : Some n ≡ Some (size log) = h ∙ cond-true (sound log) (Some (size log)) None t in
     let s : size log ≡ n = cc in
@@ -27,16 +27,16 @@ body-some log n h =
     absurd (omega arith)) (cases_Bool (sound log))
 
 -- no sound head stands at a place
-pub run-stop-at : (bytes : List ℕ) (at : ℕ) (saved : List (List ℕ)) → at < length bytes → body (take (length bytes - at) (drop at bytes)) ≡ None → run (drop at bytes) saved ≡ None
-run-stop-at bytes at saved l h =
+pub run_stop_at : (bytes : List ℕ) (at : ℕ) (saved : List (List ℕ)) → at < length bytes → body (take (length bytes - at) (drop at bytes)) ≡ None → run (drop at bytes) saved ≡ None
+run_stop_at bytes at saved l h =
     let d = length-drop at bytes in
-    run-stop (drop at bytes) saved (omega arith) (body-none (drop at bytes) (sym (ap body (take_rest bytes at)) ∙ h))
+    run_stop (drop at bytes) saved (omega arith) (body_none (drop at bytes) (sym (ap body (take_rest bytes at)) ∙ h))
 
 -- a sound head stands there, and its bytes are saved
 pub run-step-at : (bytes : List ℕ) (at n : ℕ) (saved : List (List ℕ)) → Some n ≡ body (take (length bytes - at) (drop at bytes)) → run (drop at bytes) saved ≡ run (drop (at + (4 + n)) bytes) (set saved (get_or (take (length bytes - at) (drop at bytes)) 0 0) (take n (drop 4 (take (length bytes - at) (drop at bytes)))))
 run-step-at bytes at n saved h =
     let r = take_rest bytes at in
-    let b = body-some (drop at bytes) n (h ∙ ap body r) in
+    let b = body_some (drop at bytes) n (h ∙ ap body r) in
     run_step (drop at bytes) saved b.0
     ∙ ap (λ m. run (drop (4 + m) (drop at bytes)) (set saved (get_or (drop at bytes) 0 0) (take m (drop 4 (drop at bytes))))) b.1
     ∙ ap (λ z. run z (set saved (get_or (drop at bytes) 0 0) (take n (drop 4 (drop at bytes))))) (drop-drop (4 + n) at bytes)
@@ -46,7 +46,7 @@ run-step-at bytes at n saved h =
 pub fits-at : (bytes : List ℕ) (at n : ℕ) → at < length bytes → Some n ≡ body (take (length bytes - at) (drop at bytes)) → (at + (4 + n) ≤ length bytes) × (length (take n (drop 4 (take (length bytes - at) (drop at bytes)))) ≡ n)
 fits-at bytes at n l h =
     let r = take_rest bytes at in
-    let b = body-some (drop at bytes) n (h ∙ ap body r) in
+    let b = body_some (drop at bytes) n (h ∙ ap body r) in
     let f = sound-front (drop at bytes) b.0 in
     let w = f.whole in
     let i = f.within in

@@ -1,7 +1,7 @@
 -- Why a call of this crate is refused.
 --
 -- cause r         a refusal's cause in words, as it is printed
--- notALogCause    the cause of the refusal of bytes that are not those of a log
+-- not_a_log_cause    the cause of the refusal of bytes that are not those of a log
 use Rattle.std.specs.Prelude.{ℕ, List, codes}
 use Rattle.storage.specs.declared.refusals.Refusal.{Refusal}
 use Rattle.storage.specs.declared.refusals.Refusal.TheVariants.{Number, Length, Room}
@@ -11,5 +11,5 @@ cause Number = codes "the number is above 6"
 cause Length = codes "the length is not 1 to 3320"
 cause Room = codes "the buffer has less than 3320 bytes"
 
-abbrev pub notALogCause : List ℕ
-notALogCause = codes "the bytes are not those of a log"
+abbrev pub not_a_log_cause : List ℕ
+not_a_log_cause = codes "the bytes are not those of a log"

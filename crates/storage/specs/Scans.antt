@@ -47,10 +47,10 @@ with-front log saved = slice_set saved (slice_index log 0) (take (size log) (dro
 abbrev pub run : List ℕ → List (List ℕ) → Option (List (List ℕ))
 run log saved = scan (length log) log saved
 
-scan-end : (f : ℕ) (log : List ℕ) (saved : List (List ℕ)) → length log ≡ 0 → scan f log saved ≡ Some saved
+scan_end : (f : ℕ) (log : List ℕ) (saved : List (List ℕ)) → length log ≡ 0 → scan f log saved ≡ Some saved
 unfolding scan
-scan-end zero log saved e = let t = eq-eqb (length log) 0 e in rw t
-scan-end (suc f) log saved e = let t = eq-eqb (length log) 0 e in rw t
+scan_end zero log saved e = let t = eq-eqb (length log) 0 e in rw t
+scan_end (suc f) log saved e = let t = eq-eqb (length log) 0 e in rw t
 
 scan_step : (f : ℕ) (log : List ℕ) (saved : List (List ℕ)) → 0 < length log → sound log ≡ true → scan (suc f) log saved ≡ scan f (rest log) (with-front log saved)
 unfolding scan
@@ -58,42 +58,42 @@ scan_step f log saved l h =
     cond-false (length log == 0) (Some saved) (cond (sound log) (scan f (rest log) (with-front log saved)) None) (ne_eqb (length log) 0 (omega arith))
     ∙ cond-true (sound log) (scan f (rest log) (with-front log saved)) None h
 
-scan-stop : (f : ℕ) (log : List ℕ) (saved : List (List ℕ)) → 0 < length log → sound log ≡ false → scan f log saved ≡ None
+scan_stop : (f : ℕ) (log : List ℕ) (saved : List (List ℕ)) → 0 < length log → sound log ≡ false → scan f log saved ≡ None
 unfolding scan
-scan-stop zero log saved l h = cond-false (length log == 0) (Some saved) None (ne_eqb (length log) 0 (omega arith))
-scan-stop (suc f) log saved l h =
+scan_stop zero log saved l h = cond-false (length log == 0) (Some saved) None (ne_eqb (length log) 0 (omega arith))
+scan_stop (suc f) log saved l h =
     cond-false (length log == 0) (Some saved) (cond (sound log) (scan f (rest log) (with-front log saved)) None) (ne_eqb (length log) 0 (omega arith))
     ∙ cond-false (sound log) (scan f (rest log) (with-front log saved)) None h
 
 -- more steps than bytes change nothing
-scan-enough : (f g : ℕ) (log : List ℕ) (saved : List (List ℕ)) → length log ≤ f → length log ≤ g → scan f log saved ≡ scan g log saved
-scan-enough zero g log saved l k = scan-end zero log saved (omega arith) ∙ sym (scan-end g log saved (omega arith))
-scan-enough (suc f) zero log saved l k = scan-end (suc f) log saved (omega arith) ∙ sym (scan-end zero log saved (omega arith))
-scan-enough (suc f) (suc g) log saved l k =
-    ⊎_elim (λ t. let e = eqb-true (length log) 0 t in scan-end (suc f) log saved e ∙ sym (scan-end (suc g) log saved e))
+scan_enough : (f g : ℕ) (log : List ℕ) (saved : List (List ℕ)) → length log ≤ f → length log ≤ g → scan f log saved ≡ scan g log saved
+scan_enough zero g log saved l k = scan_end zero log saved (omega arith) ∙ sym (scan_end g log saved (omega arith))
+scan_enough (suc f) zero log saved l k = scan_end (suc f) log saved (omega arith) ∙ sym (scan_end zero log saved (omega arith))
+scan_enough (suc f) (suc g) log saved l k =
+    ⊎_elim (λ t. let e = eqb-true (length log) 0 t in scan_end (suc f) log saved e ∙ sym (scan_end (suc g) log saved e))
     (λ t.
     let some : 0 < length log = grind (arith, nat_tests) in
     let d = length-drop (4 + size log) log in
     let a : length (rest log) ≤ f = omega arith in
     let b : length (rest log) ≤ g = omega arith in
-    ⊎_elim (λ h. scan_step f log saved some h ∙ scan-enough f g (rest log) (with-front log saved) a b ∙ sym (scan_step g log saved some h)) (λ h. scan-stop (suc f) log saved some h ∙ sym (scan-stop (suc g) log saved some h)) (cases_Bool (sound log))) (cases_Bool (length log == 0))
+    ⊎_elim (λ h. scan_step f log saved some h ∙ scan_enough f g (rest log) (with-front log saved) a b ∙ sym (scan_step g log saved some h)) (λ h. scan_stop (suc f) log saved some h ∙ sym (scan_stop (suc g) log saved some h)) (cases_Bool (sound log))) (cases_Bool (length log == 0))
 
 -- nothing is left
 pub run_end : (log : List ℕ) (saved : List (List ℕ)) → length log ≡ 0 → run log saved ≡ Some saved
-run_end log saved e = scan-end (length log) log saved e
+run_end log saved e = scan_end (length log) log saved e
 
 -- the front is sound
 pub run_step : (log : List ℕ) (saved : List (List ℕ)) → sound log ≡ true → run log saved ≡ run (rest log) (with-front log saved)
 run_step log saved h =
     let w = (sound-front log h).whole in
     let d = length-drop (4 + size log) log in
-    scan-enough (length log) (suc (length log)) log saved (omega arith) (omega arith)
+    scan_enough (length log) (suc (length log)) log saved (omega arith) (omega arith)
     ∙ scan_step (length log) log saved (omega arith) h
-    ∙ scan-enough (length log) (length (rest log)) (rest log) (with-front log saved) (omega arith) (omega arith)
+    ∙ scan_enough (length log) (length (rest log)) (rest log) (with-front log saved) (omega arith) (omega arith)
 
 -- the front is not
-pub run-stop : (log : List ℕ) (saved : List (List ℕ)) → 0 < length log → sound log ≡ false → run log saved ≡ None
-run-stop log saved l h = scan-stop (length log) log saved l h
+pub run_stop : (log : List ℕ) (saved : List (List ℕ)) → 0 < length log → sound log ≡ false → run log saved ≡ None
+run_stop log saved l h = scan_stop (length log) log saved l h
 
 -- what follows a sound front does not change it
 front-append : (log more : List ℕ) → Front log → (size (log ++ more) ≡ size log) × (slice_index (log ++ more) 0 ≡ slice_index log 0) × Front (log ++ more)
@@ -155,13 +155,13 @@ run-append (suc f) log more saved found l h =
     ∙ ap (λ z. run z (with-front (log ++ more) saved)) (rest-append log more fr)
     ∙ ap (run (rest log ++ more)) (with_append log more saved fr)
     ∙ run-append f (rest log) more (with-front log saved) found small (sym (run_step log saved b) ∙ h)) (λ b.
-    let e : None ≡ Some found = sym (run-stop log saved some b) ∙ h in
+    let e : None ≡ Some found = sym (run_stop log saved some b) ∙ h in
     let no : ◌≡◌ {A = ℕ} 0 1 = cc in
     absurd (omega arith)) (cases_Bool (sound log))) (cases_Bool (length log == 0))
 
 -- one head and its bytes
-run-one : (k : ℕ) (bs : List ℕ) (saved : List (List ℕ)) → k ≤ 6 → 1 ≤ length bs → length bs ≤ 3320 → run (head k (length bs) ++ bs) saved ≡ Some (slice_set saved k bs)
-run-one k bs saved a b d =
+run_one : (k : ℕ) (bs : List ℕ) (saved : List (List ℕ)) → k ≤ 6 → 1 ≤ length bs → length bs ≤ 3320 → run (head k (length bs) ++ bs) saved ≡ Some (slice_set saved k bs)
+run_one k bs saved a b d =
     let s : length bs % 256 + 256 * (length bs / 256) ≡ length bs = omega arith in
     let fr : Front (head k (length bs) ++ bs) = record { whole = omega arith; known = a; zeroed = refl; some = omega arith; fits = omega arith; within = omega arith } in
     let r : rest (head k (length bs) ++ bs) ≡ [] = drop_all (4 + size (head k (length bs) ++ bs)) (head k (length bs) ++ bs) (omega arith) in
@@ -171,24 +171,24 @@ run-one k bs saved a b d =
     ∙ ap (λ z. Some (slice_set saved k z)) (ap (λ n. take n bs) s ∙ take_all (length bs) bs (omega arith))
 
 -- what a reader finds in a log that is not too long, and in no other
-pub read-run : (log : List ℕ) → length log ≤ 26592 → read_log log ≡ run log (replicate 7 [])
+pub read_run : (log : List ℕ) → length log ≤ 26592 → read_log log ≡ run log (replicate 7 [])
 unfolding read_log
-read-run log l = cond-true (nat_le (length log) 26592) (run log (replicate 7 [])) None (le-leb (length log) 26592 l)
+read_run log l = cond-true (nat_le (length log) 26592) (run log (replicate 7 [])) None (le-leb (length log) 26592 l)
 
-pub read-long : (log : List ℕ) → 26592 < length log → read_log log ≡ None
+pub read_long : (log : List ℕ) → 26592 < length log → read_log log ≡ None
 unfolding read_log
-read-long log l = let t : leb (length log) 26592 ≡ false = grind (arith, nat_tests) in cond-false (nat_le (length log) 26592) (run log (replicate 7 [])) None t
+read_long log l = let t : leb (length log) 26592 ≡ false = grind (arith, nat_tests) in cond-false (nat_le (length log) 26592) (run log (replicate 7 [])) None t
 
 -- a log that grows by one head and its bytes
-pub read-append : (log : List ℕ) (found : List (List ℕ)) (k : ℕ) (bs : List ℕ) → read_log log ≡ Some found → k ≤ 6 → 1 ≤ length bs → length bs ≤ 3320 → length log + (4 + length bs) ≤ 26592 → read_log (log ++ (head k (length bs) ++ bs)) ≡ Some (slice_set found k bs)
-read-append log found k bs h a b d l =
+pub read_append : (log : List ℕ) (found : List (List ℕ)) (k : ℕ) (bs : List ℕ) → read_log log ≡ Some found → k ≤ 6 → 1 ≤ length bs → length bs ≤ 3320 → length log + (4 + length bs) ≤ 26592 → read_log (log ++ (head k (length bs) ++ bs)) ≡ Some (slice_set found k bs)
+read_append log found k bs h a b d l =
     let n = length-append log (head k (length bs) ++ bs) in
-    read-run (log ++ (head k (length bs) ++ bs)) (omega arith)
-    ∙ run-append (length log) log (head k (length bs) ++ bs) (replicate 7 []) found (omega arith) (sym (read-run log (omega arith)) ∙ h)
-    ∙ run-one k bs found a b d
+    read_run (log ++ (head k (length bs) ++ bs)) (omega arith)
+    ∙ run-append (length log) log (head k (length bs) ++ bs) (replicate 7 []) found (omega arith) (sym (read_run log (omega arith)) ∙ h)
+    ∙ run_one k bs found a b d
 
-pub read-nothing : read_log [] ≡ Some (replicate 7 [])
-read-nothing = read-run [] (omega arith) ∙ run_end [] (replicate 7 []) refl
+pub read_nothing : read_log [] ≡ Some (replicate 7 [])
+read_nothing = read_run [] (omega arith) ∙ run_end [] (replicate 7 []) refl
 
 -- an option that holds something holds what stands for it
 pub some_is : {X : Type 0} (o : Option X) (d x : X) → option_is_some o ≡ true → or_else o d ≡ x → o ≡ Some x

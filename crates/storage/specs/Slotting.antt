@@ -10,16 +10,16 @@ use Rattle.storage.specs.declared.slots.SlotStore.{SlotStore}
 pub bytes-length : (s : Slot) → length (bytes_of s) ≡ s.len
 bytes-length s = length-take-le s.len s.bytes (omega arith)
 
-slots-short : (ss : List Slot) (k : ℕ) → length (slice_index_or (map bytes_of ss) k []) ≤ 3320
-slots-short [] k = omega arith
-slots-short (s ∷ ss) zero = let n = bytes-length s in omega arith
-slots-short (s ∷ ss) (suc k) = slots-short ss k
+slots_short : (ss : List Slot) (k : ℕ) → length (slice_index_or (map bytes_of ss) k []) ≤ 3320
+slots_short [] k = omega arith
+slots_short (s ∷ ss) zero = let n = bytes-length s in omega arith
+slots_short (s ∷ ss) (suc k) = slots_short ss k
 
-pub slots-lawful : (s : SlotStore) → Places (slotted s)
-slots-lawful s =
+pub slots_lawful : (s : SlotStore) → Places (slotted s)
+slots_lawful s =
     record {
       seven = length-map (vec_items s.slots) bytes_of ∙ sym s.slots.ok.0 ∙ s.seven;
-      short = slots-short (vec_items s.slots);
+      short = slots_short (vec_items s.slots);
     }
 
 pub bytes-at : (ss : List Slot) (k : ℕ) (s : Slot) → k < length ss → s ≡ slice_index_or ss k s → slice_index_or (map bytes_of ss) k [] ≡ bytes_of s

@@ -1,6 +1,6 @@
 // Why a call of this crate is refused.
 ghost use Rattle.std.specs.Prelude.{◌≡◌, Some};
-ghost use Rattle.storage.specs.Refusals.{cause, notALogCause};
+ghost use Rattle.storage.specs.Refusals.{cause, not_a_log_cause};
 
 use std::fmt;
 
@@ -45,7 +45,7 @@ pub struct NotALog;
 impl NotALog {
     // Its cause in words.
     pub fn cause(self) -> &'static str
-        ensures answer { result.now ≡ notALogCause }
+        ensures answer { result.now ≡ not_a_log_cause }
     {
         "the bytes are not those of a log"
     }
@@ -53,7 +53,7 @@ impl NotALog {
 
 // The refusal prints as its cause.
 impl fmt::Display for NotALog {
-    ghost output = { λ r. Some notALogCause };
+    ghost output = { λ r. Some not_a_log_cause };
 
     fn fmt<W: fmt::Write>(&self, f: &mut fmt::Formatter<W>) -> fmt::Result {
         let cause = self.cause();

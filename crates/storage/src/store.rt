@@ -1,6 +1,6 @@
 // What every store does.
 ghost use Rattle.std.specs.Prelude.{◌≡◌, ℕ, List, [], length, is_ok, if◌then◌else◌, slice_index_or, slice_set};
-ghost use Rattle.storage.specs.Stores.{Places, saveAnswer, loadAnswer, fronted};
+ghost use Rattle.storage.specs.Stores.{Places, save_answer, load_answer, fronted};
 
 use crate::refusals::Refusal;
 
@@ -19,12 +19,12 @@ pub trait Store {
 
     // Replaces the bytes saved for a number, and no other's. Refuses a number above 6, then a length outside 1 to 3320, and changes nothing then.
     fn save(&mut self, number: usize, bytes: &[u8]) -> Result<(), Refusal>
-        ensures answer { result ≡ saveAnswer number (length bytes.now) }
+        ensures answer { result ≡ save_answer number (length bytes.now) }
         ensures after { saved self.new ≡ (if is_ok result then slice_set (saved self.old) number bytes.now else saved self.old) };
 
     // Copies the bytes saved for a number to the front of a buffer of 3320 bytes or more, leaves the rest of it, and answers how many they are, 0 where nothing is saved. Refuses a number above 6, then a smaller buffer, and leaves the buffer then.
     fn load(&mut self, number: usize, buffer: &mut [u8]) -> Result<usize, Refusal>
-        ensures answer { result ≡ loadAnswer number (length buffer.old) (slice_index_or (saved self.old) number []) }
+        ensures answer { result ≡ load_answer number (length buffer.old) (slice_index_or (saved self.old) number []) }
         ensures buffer { buffer.new ≡ (if is_ok result then fronted (slice_index_or (saved self.old) number []) buffer.old else buffer.old) }
         ensures kept { saved self.new ≡ saved self.old };
 

@@ -9,28 +9,28 @@ use Rattle.gossip.specs.Messages.{rises, below, seats}
 use Rattle.gossip.specs.declared.entry.State.{State}
 use Rattle.table.specs.Columns.{paired, place, spot}
 use Rattle.table.specs.Entries.{entry, find, changed, put}
-use Rattle.table.proofs.Puts.{rises-parts, rises-cons, rises-first, rises-put, below-lower}
+use Rattle.table.proofs.Puts.{rises_parts, rises_cons, rises-first, rises-put, below_lower}
 
 -- one look of the search by halves: a lower number stands before the place, and any other at the place or behind it
-pub before-place : (us : List ℕ) (u i d : ℕ) → rises us ≡ true → i < length us → get_or us i d < u → i < place us u
-before-place [] u i d h l k = absurd (omega arith)
-before-place (v ∷ us) u zero d h l k = let t = lt-ltb v u k in rw t (omega arith)
-before-place (v ∷ us) u (suc i) d h l k =
+pub before_place : (us : List ℕ) (u i d : ℕ) → rises us ≡ true → i < length us → get_or us i d < u → i < place us u
+before_place [] u i d h l k = absurd (omega arith)
+before_place (v ∷ us) u zero d h l k = let t = lt-ltb v u k in rw t (omega arith)
+before_place (v ∷ us) u (suc i) d h l k =
     let f = rises-first v us i d h (omega arith) in
     let t = lt-ltb v u (omega arith) in
-    let b = before-place us u i d (rises-parts v us h).1 (omega arith) k in
+    let b = before_place us u i d (rises_parts v us h).1 (omega arith) k in
     rw t (omega arith)
 
-pub behind-place : (us : List ℕ) (u i d : ℕ) → i < length us → u ≤ get_or us i d → place us u ≤ i
-behind-place [] u i d l k = absurd (omega arith)
-behind-place (v ∷ us) u zero d l k = let t = le-ltb v u k in rw t (omega arith)
-behind-place (v ∷ us) u (suc i) d l k =
-    let b = behind-place us u i d (omega arith) k in
+pub behind_place : (us : List ℕ) (u i d : ℕ) → i < length us → u ≤ get_or us i d → place us u ≤ i
+behind_place [] u i d l k = absurd (omega arith)
+behind_place (v ∷ us) u zero d l k = let t = le-ltb v u k in rw t (omega arith)
+behind_place (v ∷ us) u (suc i) d l k =
+    let b = behind_place us u i d (omega arith) k in
     ⊎_elim (λ t. rw t (omega arith)) (λ t. rw t (omega arith)) (cases_Bool (ltb v u))
 
-pub place-le : (us : List ℕ) (u : ℕ) → place us u ≤ length us
-place-le [] u = omega arith
-place-le (v ∷ us) u = let h = place-le us u in ⊎_elim (λ t. rw t (omega arith)) (λ t. rw t (omega arith)) (cases_Bool (ltb v u))
+pub place_le : (us : List ℕ) (u : ℕ) → place us u ≤ length us
+place_le [] u = omega arith
+place_le (v ∷ us) u = let h = place_le us u in ⊎_elim (λ t. rw t (omega arith)) (λ t. rw t (omega arith)) (cases_Bool (ltb v u))
 
 -- a number that stands anywhere stands at its place
 pub spot-place : (us : List ℕ) (u d : ℕ) → place us u < length us → get_or us (place us u) d ≡ u → spot us u ≡ place us u
@@ -48,19 +48,19 @@ spot-below : (us : List ℕ) (u : ℕ) → rises us ≡ true → below u us ≡ 
 spot-below [] u h b = refl
 spot-below (v ∷ us) u h b =
     let l = ltb-true u v b in
-    let p = rises-parts v us h in
+    let p = rises_parts v us h in
     let n = ne_eqb v u (λ q. omega arith) in
-    rw n (ap suc (spot-below us u p.1 (below-lower u v us l p.0)))
+    rw n (ap suc (spot-below us u p.1 (below_lower u v us l p.0)))
 
-pub spot-none : (us : List ℕ) (u d : ℕ) → rises us ≡ true → (place us u < length us → get_or us (place us u) d ≡ u → ⊥) → spot us u ≡ length us
-spot-none [] u d h k = refl
-spot-none (v ∷ us) u d h k =
+pub spot_none : (us : List ℕ) (u d : ℕ) → rises us ≡ true → (place us u < length us → get_or us (place us u) d ≡ u → ⊥) → spot us u ≡ length us
+spot_none [] u d h k = refl
+spot_none (v ∷ us) u d h k =
     ⊎_elim
     (λ t.
     let l = ltb-true v u t in
     let n = ne_eqb v u (λ q. omega arith) in
     let m = rw t at k in
-    rw n (ap suc (spot-none us u d (rises-parts v us h).1 (λ a e. m (omega arith) e))))
+    rw n (ap suc (spot_none us u d (rises_parts v us h).1 (λ a e. m (omega arith) e))))
     (λ t.
     let m = rw t at k in
     let l = ltb-false v u t in
@@ -92,11 +92,11 @@ found_at (v ∷ us) [] u x e h r = absurd (omega arith)
 found_at (v ∷ us) (y ∷ ys) u x e h r =
     ⊎_elim (λ t. rw t (ap Some (rw t at r))) (λ t. rw t (found_at us ys u x (omega arith) (let k = rw t at h in omega arith) (rw t at r))) (cases_Bool (eqb v u))
 
-pub none-at : (us : List ℕ) (xs : List State) (u : ℕ) → length xs ≡ length us → length xs ≤ spot us u → None ≡ find (paired us xs) u
-none-at [] xs u e h = refl
-none-at (v ∷ us) [] u e h = absurd (omega arith)
-none-at (v ∷ us) (y ∷ ys) u e h =
-    ⊎_elim (λ t. absurd (let k = rw t at h in omega arith)) (λ t. rw t (none-at us ys u (omega arith) (let k = rw t at h in omega arith))) (cases_Bool (eqb v u))
+pub none_at : (us : List ℕ) (xs : List State) (u : ℕ) → length xs ≡ length us → length xs ≤ spot us u → None ≡ find (paired us xs) u
+none_at [] xs u e h = refl
+none_at (v ∷ us) [] u e h = absurd (omega arith)
+none_at (v ∷ us) (y ∷ ys) u e h =
+    ⊎_elim (λ t. absurd (let k = rw t at h in omega arith)) (λ t. rw t (none_at us ys u (omega arith) (let k = rw t at h in omega arith))) (cases_Bool (eqb v u))
 
 -- a state that is changed or lent at the spot
 pub changed-at : (us : List ℕ) (xs : List State) (u : ℕ) (w : State) → length xs ≡ length us → paired us (set xs (spot us u) w) ≡ changed (paired us xs) u w
@@ -106,13 +106,13 @@ changed-at (v ∷ us) (y ∷ ys) u w e =
     ⊎_elim (λ t. let q = eqb-true v u t in rw t (ap (λ n. entry n w ∷ paired us ys) q)) (λ t. rw t (ap (λ l. entry v y ∷ l) (changed-at us ys u w (omega arith)))) (cases_Bool (eqb v u))
 
 pub lent_at : (us : List ℕ) (xs : List State) (u i : ℕ) → length xs ≡ length us → i ≡ spot us u → (r : Option (Bor State)) → IsGetResult xs i i r → option_map (λ x. x.now) r ≡ find (paired us xs) u
-lent_at us xs u i e q None it = none-at us xs u e (let k = it.3 in omega arith)
+lent_at us xs u i e q None it = none_at us xs u e (let k = it.3 in omega arith)
 lent_at us xs u i e q (Some x) it = found_at us xs u x.now e (let k = it.3.0 in omega arith) (rw q at it.1)
 
 -- an insertion at the place of a seat that has no entry
-not-here : (b : Bool) (y : State) (o : Option State) → cond b (Some y) o ≡ None → b ≡ false
-not-here true y o n = absurd (let z : ◌≡◌ {A = ℕ} 0 1 = cc in omega arith)
-not-here false y o n = refl
+not_here : (b : Bool) (y : State) (o : Option State) → cond b (Some y) o ≡ None → b ≡ false
+not_here true y o n = absurd (let z : ◌≡◌ {A = ℕ} 0 1 = cc in omega arith)
+not_here false y o n = refl
 
 pub put-at : (us : List ℕ) (xs : List State) (u : ℕ) (x : State) → length xs ≡ length us → find (paired us xs) u ≡ None → paired (insert us (place us u) u) (insert xs (place us u) x) ≡ put (paired us xs) u x
 put-at [] [] u x e n = refl
@@ -124,35 +124,35 @@ put-at (v ∷ us) (y ∷ ys) u x e n =
     let l = ltb-true v u t in
     let s = ne_eqb v u (λ q. omega arith) in
     rw t (ap (λ l. entry v y ∷ l) (put-at us ys u x (omega arith) (rw s at n))))
-    (λ t. let s = not-here (eqb v u) y (find (paired us ys) u) n in rw t (sym (cond-false (eqb v u) _ _ s)))
+    (λ t. let s = not_here (eqb v u) y (find (paired us ys) u) n in rw t (sym (cond-false (eqb v u) _ _ s)))
     (cases_Bool (ltb v u))
 
-pub rises-inserted : (us : List ℕ) (xs : List State) (u : ℕ) (x : State) → length xs ≡ length us → find (paired us xs) u ≡ None → rises us ≡ true → rises (insert us (place us u) u) ≡ true
-rises-inserted us xs u x e n r =
+pub rises_inserted : (us : List ℕ) (xs : List State) (u : ℕ) (x : State) → length xs ≡ length us → find (paired us xs) u ≡ None → rises us ≡ true → rises (insert us (place us u) u) ≡ true
+rises_inserted us xs u x e n r =
     let p = place us u in
-    let a = length-insert us p u (place-le us u) in
-    let b = length-insert xs p x (let h = place-le us u in omega arith) in
+    let a = length-insert us p u (place_le us u) in
+    let b = length-insert xs p x (let h = place_le us u in omega arith) in
     ap rises (sym (seats-paired (insert us p u) (insert xs p x) (omega arith)))
     ∙ ap (λ l. rises (seats l)) (put-at us xs u x e n)
     ∙ rises-put (paired us xs) u x (ap rises (seats-paired us xs e) ∙ r)
 
 -- a removal
-pub paired-removed : (us : List ℕ) (xs : List State) (i : ℕ) → length xs ≡ length us → paired (remove us i) (remove xs i) ≡ remove (paired us xs) i
-paired-removed [] [] zero e = refl
-paired-removed [] [] (suc i) e = refl
-paired-removed [] (y ∷ ys) i e = absurd (omega arith)
-paired-removed (u ∷ us) [] i e = absurd (omega arith)
-paired-removed (u ∷ us) (y ∷ ys) zero e = refl
-paired-removed (u ∷ us) (y ∷ ys) (suc i) e = ap (λ l. entry u y ∷ l) (paired-removed us ys i (omega arith))
+pub paired_removed : (us : List ℕ) (xs : List State) (i : ℕ) → length xs ≡ length us → paired (remove us i) (remove xs i) ≡ remove (paired us xs) i
+paired_removed [] [] zero e = refl
+paired_removed [] [] (suc i) e = refl
+paired_removed [] (y ∷ ys) i e = absurd (omega arith)
+paired_removed (u ∷ us) [] i e = absurd (omega arith)
+paired_removed (u ∷ us) (y ∷ ys) zero e = refl
+paired_removed (u ∷ us) (y ∷ ys) (suc i) e = ap (λ l. entry u y ∷ l) (paired_removed us ys i (omega arith))
 
-below-removed : (v : ℕ) (us : List ℕ) (i : ℕ) → rises us ≡ true → below v us ≡ true → below v (remove us i) ≡ true
-below-removed v [] zero r b = refl
-below-removed v [] (suc i) r b = refl
-below-removed v (u ∷ us) zero r b = below-lower v u us (ltb-true v u b) (rises-parts u us r).0
-below-removed v (u ∷ us) (suc i) r b = b
+below_removed : (v : ℕ) (us : List ℕ) (i : ℕ) → rises us ≡ true → below v us ≡ true → below v (remove us i) ≡ true
+below_removed v [] zero r b = refl
+below_removed v [] (suc i) r b = refl
+below_removed v (u ∷ us) zero r b = below_lower v u us (ltb-true v u b) (rises_parts u us r).0
+below_removed v (u ∷ us) (suc i) r b = b
 
-pub rises-removed : (us : List ℕ) (i : ℕ) → rises us ≡ true → rises (remove us i) ≡ true
-rises-removed [] zero r = refl
-rises-removed [] (suc i) r = refl
-rises-removed (u ∷ us) zero r = (rises-parts u us r).1
-rises-removed (u ∷ us) (suc i) r = let p = rises-parts u us r in rises-cons u (remove us i) (below-removed u us i p.1 p.0) (rises-removed us i p.1)
+pub rises_removed : (us : List ℕ) (i : ℕ) → rises us ≡ true → rises (remove us i) ≡ true
+rises_removed [] zero r = refl
+rises_removed [] (suc i) r = refl
+rises_removed (u ∷ us) zero r = (rises_parts u us r).1
+rises_removed (u ∷ us) (suc i) r = let p = rises_parts u us r in rises_cons u (remove us i) (below_removed u us i p.1 p.0) (rises_removed us i p.1)

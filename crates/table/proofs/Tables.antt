@@ -13,16 +13,16 @@ pub length-contents : (t : Table) → length (contents t) ≡ vec_len t.seats
 unfolding contents
 length-contents t = length-paired _ _ (level t) ∙ sym t.seats.ok.0
 
-pub contents-few : (t : Table) → length (contents t) ≤ 64
-contents-few t = let h = length-contents t in let f = t.few in omega arith
+pub contents_few : (t : Table) → length (contents t) ≤ 64
+contents_few t = let h = length-contents t in let f = t.few in omega arith
 
-pub contents-rise : (t : Table) → rises (seats (contents t)) ≡ true
+pub contents_rise : (t : Table) → rises (seats (contents t)) ≡ true
 unfolding contents
-contents-rise t = ap rises (seats-paired _ _ (level t)) ∙ t.rising
+contents_rise t = ap rises (seats-paired _ _ (level t)) ∙ t.rising
 
 -- a table without entries holds nothing
-pub contents-none : (t : Table) → contents t ≡ [] → (vec_items t.seats ≡ []) × (vec_items t.states ≡ []) × (vec_len t.seats ≡ 0) × (vec_len t.states ≡ 0)
-contents-none t e =
+pub contents_none : (t : Table) → contents t ≡ [] → (vec_items t.seats ≡ []) × (vec_items t.states ≡ []) × (vec_len t.seats ≡ 0) × (vec_len t.states ≡ 0)
+contents_none t e =
     let n = length-contents t in
     let k : vec_len t.seats ≡ 0 = omega (arith, ap length e) in
     let m : vec_len t.states ≡ 0 = let f = t.few in omega arith in

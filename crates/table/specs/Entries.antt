@@ -11,7 +11,7 @@
 -- absorbed join es u x       one entry taken in
 -- merge join es fs           each of fs taken in
 -- fresh es fs                how many entries of fs have a seat that has none in es
--- underRows s rows           a timestamp is at or under every row
+-- under_rows s rows           a timestamp is at or under every row
 -- expired g c rows x         x is a tombstone whose time and the grace g end before the clock c, and that every row covers
 -- swept g c rows es          what a sweep leaves
 -- removable g c rows es      what a sweep removes
@@ -69,12 +69,12 @@ abbrev pub fresh : List Entry → List Entry → ℕ
 fresh es [] = 0
 fresh es (f ∷ fs) = cond (is_some (find es f.seat)) 0 1 + fresh es fs
 
-abbrev pub underRows : List ℕ → List Timestamp → Bool
-underRows s rows = every (λ r. under s r.parts) rows
+abbrev pub under_rows : List ℕ → List Timestamp → Bool
+under_rows s rows = every (λ r. under s r.parts) rows
 
 abbrev pub expired : ℕ → ℕ → List Timestamp → State → Bool
 expired grace clock rows (Value x) = false
-expired grace clock rows (Tombstone t s) = nat_lt (t + grace) clock && underRows s.parts rows
+expired grace clock rows (Tombstone t s) = nat_lt (t + grace) clock && under_rows s.parts rows
 
 abbrev pub swept : ℕ → ℕ → List Timestamp → List Entry → List Entry
 swept grace clock rows es = filter (λ e. not (expired grace clock rows e.state)) es

@@ -4,7 +4,7 @@
 -- cause r      its cause in words
 -- shown r      the two as they are printed, a space between them
 -- outcome r    a result as a promise speaks of it: what was done, or the refusal's number
--- ifFits es    done where a table has room for the entries, else refused by 6
+-- if_fits es    done where a table has room for the entries, else refused by 6
 use Rattle.std.specs.Prelude.{ℕ, List, ◌++◌, Ok, Err, codes, decimal, Result}
 use Rattle.gossip.specs.Refusals.{unless}
 use Rattle.gossip.specs.declared.entry.Entry.{Entry}
@@ -24,5 +24,5 @@ abbrev pub outcome : {T : Type 0} → Result T Full → Result T ℕ
 outcome (Ok x) = Ok x
 outcome (Err e) = Err (number e)
 
-abbrev pub ifFits : List Entry → Result (Unit {0}) ℕ
-ifFits es = unless (fits es) 6 (Ok tt)
+abbrev pub if_fits : List Entry → Result (Unit {0}) ℕ
+if_fits es = unless (fits es) 6 (Ok tt)

@@ -19,10 +19,10 @@ pub record Sorted : Type 0 where
 
 pub record Lookups : Type 0 where
   -- to change an entry that is there is to put it, so that what holds of a put holds of a state that was lent
-  pub change-puts : (es : List Entry) (u : ℕ) (x : State) → rises (seats es) ≡ true → is_some (find es u) ≡ true → changed es u x ≡ put es u x
-  pub put-finds : (es : List Entry) (u : ℕ) (x : State) (v : ℕ) → find (put es u x) v ≡ cond (u == v) (Some x) (find es v)
-  pub merge-finds : (join : ℕ → ℕ → ℕ) (es fs : List Entry) (u : ℕ) → rises (seats fs) ≡ true → find (merge join es fs) u ≡ both join (find es u) (find fs u)
-  pub sweep-finds : (grace clock : ℕ) (rows : List Timestamp) (es : List Entry) (u : ℕ) → rises (seats es) ≡ true → find (swept grace clock rows es) u ≡ survivor grace clock rows (find es u)
+  pub change_puts : (es : List Entry) (u : ℕ) (x : State) → rises (seats es) ≡ true → is_some (find es u) ≡ true → changed es u x ≡ put es u x
+  pub put_finds : (es : List Entry) (u : ℕ) (x : State) (v : ℕ) → find (put es u x) v ≡ cond (u == v) (Some x) (find es v)
+  pub merge_finds : (join : ℕ → ℕ → ℕ) (es fs : List Entry) (u : ℕ) → rises (seats fs) ≡ true → find (merge join es fs) u ≡ both join (find es u) (find fs u)
+  pub sweep_finds : (grace clock : ℕ) (rows : List Timestamp) (es : List Entry) (u : ℕ) → rises (seats es) ≡ true → find (swept grace clock rows es) u ≡ survivor grace clock rows (find es u)
 
 pub record Orders : Type 0 where
   pub put-rises : (es : List Entry) (u : ℕ) (x : State) → rises (seats es) ≡ true → rises (seats (put es u x)) ≡ true

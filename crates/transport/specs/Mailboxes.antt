@@ -1,6 +1,6 @@
 -- What a mailbox means.
 --
--- parcelAt p    the message in a place
+-- parcel_at p    the message in a place
 -- parcels m     the messages of a mailbox, the oldest first
 -- free m        a place is free
 -- most m        the longest message that a mailbox takes
@@ -9,11 +9,11 @@ use Rattle.transport.specs.Parcels.{Parcel, parcel}
 use Rattle.transport.specs.declared.mailbox.Place.{Place}
 use Rattle.transport.specs.declared.mailbox.Mailbox.{Mailbox}
 
-abbrev pub parcelAt : Place → Parcel
-parcelAt p = parcel p.to (take p.len p.bytes)
+abbrev pub parcel_at : Place → Parcel
+parcel_at p = parcel p.to (take p.len p.bytes)
 
 unfoldable pub parcels : Mailbox → List Parcel
-parcels m = map parcelAt (vec_items m.places)
+parcels m = map parcel_at (vec_items m.places)
 
 abbrev pub free : Mailbox → Bool
 free m = nat_lt (length (parcels m)) 16

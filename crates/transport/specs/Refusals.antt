@@ -1,7 +1,7 @@
 -- Why a message is not taken, and what a post answers.
 --
 -- cause r                      a refusal's cause in words
--- postAnswer opened most n     what a post of n bytes answers: the length is looked at first, then whether the transport is open
+-- post_answer opened most n     what a post of n bytes answers: the length is looked at first, then whether the transport is open
 -- taken r p                    what a post adds: its parcel where it was taken, else nothing
 use Rattle.std.specs.Prelude.{ℕ, Bool, cond, List, [], ◌∷◌, is_ok, Ok, Err, codes, Result}
 use Rattle.transport.specs.Parcels.{Parcel, sized}
@@ -12,8 +12,8 @@ abbrev pub cause : Refusal → List ℕ
 cause Length = codes "the message is empty or too long"
 cause Closed = codes "the transport is not open for the addressee"
 
-abbrev pub postAnswer : Bool → ℕ → ℕ → Result (Unit {0}) Refusal
-postAnswer opened most n = cond (sized most n) (cond opened (Ok tt) (Err Closed)) (Err Length)
+abbrev pub post_answer : Bool → ℕ → ℕ → Result (Unit {0}) Refusal
+post_answer opened most n = cond (sized most n) (cond opened (Ok tt) (Err Closed)) (Err Length)
 
 abbrev pub taken : Result (Unit {0}) Refusal → Parcel → List Parcel
 taken r p = cond (is_ok r) (p ∷ []) []

@@ -1,7 +1,7 @@
 // What every transport promises.
 ghost use Rattle.std.specs.Prelude.{◌≡◌, ℕ, Bool, List, [], length, take};
 ghost use Rattle.transport.specs.Parcels.{Parcel, parcel, Kept, Posted, Lawful, sized, measured};
-ghost use Rattle.transport.specs.Refusals.{postAnswer, taken};
+ghost use Rattle.transport.specs.Refusals.{post_answer, taken};
 
 use crate::refusal::Refusal;
 
@@ -20,7 +20,7 @@ pub trait Transport {
 
     // Takes a message in behind all others. It is refused exactly where its length is 0 or above the longest, and else where the transport is not open.
     fn post(&mut self, to: usize, reading: u64, bytes: &[u8]) -> Result<(), Refusal>
-        ensures answer { result ≡ postAnswer (isOpen self.old to reading) (longest self.old) (length bytes.now) }
+        ensures answer { result ≡ post_answer (isOpen self.old to reading) (longest self.old) (length bytes.now) }
         ensures lost { Posted (held self.old) (taken result (parcel to bytes.now)) (held self.new) }
         ensures kept { longest self.new ≡ longest self.old };
 

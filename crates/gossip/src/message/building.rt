@@ -1,7 +1,7 @@
 // Making a message, and looking into it.
 ghost use Rattle.std.specs.Prelude.{◌≡◌, true, ◌&&◌, [], ◌∷◌, ◌++◌, length, nat_le};
 ghost use Rattle.gossip.specs.Contents.{contents, started, pushed, after};
-ghost use Rattle.gossip.specs.Messages.{sound, origin, allowed, latest, rises, seats, wideTimestamp, wideState};
+ghost use Rattle.gossip.specs.Messages.{sound, origin, allowed, latest, rises, seats, wide_timestamp, wide_state};
 ghost use Rattle.gossip.specs.Refusals.{outcome};
 ghost use Rattle.gossip.specs.Timestamps.{under};
 
@@ -90,7 +90,7 @@ pub(crate) fn is_origin(n: usize, sender: usize) -> bool
 // Whether a state may stand in a message with this timestamp. One that may is as wide as the timestamp, since it is at or under it.
 fn is_allowed(state: &State, top: &Timestamp) -> bool
     ensures answer { result ≡ allowed top.now state.now }
-    ensures wide { result ≡ true → wideTimestamp top.now ≡ true → wideState state.now ≡ true }
+    ensures wide { result ≡ true → wide_timestamp top.now ≡ true → wide_state state.now ≡ true }
 {
     match state {
         State::Value(_) => true,

@@ -1,14 +1,14 @@
 // Enter and delete: the changes that callers ask for.
 ghost use Rattle.std.specs.Prelude.{◌≡◌, ◌+◌, max, true, ◌&&◌, if◌then◌else◌, Some, None, Ok, nat_eq, nat_le, nat_lt};
 ghost use Rattle.gossip.specs.Lattices.{Kind};
-ghost use Rattle.gossip.specs.Messages.{latest, wideState, allowed};
+ghost use Rattle.gossip.specs.Messages.{latest, wide_state, allowed};
 ghost use Rattle.gossip.specs.declared.entry.State.{State as AnyState};
 ghost use Rattle.gossip.specs.declared.entry.State.TheVariants.{Value};
 ghost use Rattle.table.specs.Contents.{contents};
 ghost use Rattle.table.specs.Entries.{find, put, fits};
-ghost use Rattle.replica.specs.Contents.{memory, changeOf, Took};
+ghost use Rattle.replica.specs.Contents.{memory, change_of, Took};
 ghost use Rattle.replica.specs.Refusals.{outcome};
-ghost use Rattle.replica.specs.Steps.{step, enters, deletes, raise, stored, entered, hasTombstone};
+ghost use Rattle.replica.specs.Steps.{step, enters, deletes, raise, stored, entered, has_tombstone};
 
 use super::Replica;
 use crate::outcome::Change;
@@ -30,7 +30,7 @@ impl Replica {
         time: u64,
         reading: u64,
     ) -> Result<Change, Refusal>
-        ensures step { Took (step kind self.old.membership (memory self.old) (enters seat value time reading)) self.old (outcome changeOf result) self.new }
+        ensures step { Took (step kind self.old.membership (memory self.old) (enters seat value time reading)) self.old (outcome change_of result) self.new }
     {
         if !are_times(time, reading) {
             return Err(Refusal::Time);
@@ -51,7 +51,7 @@ impl Replica {
 
     // Makes the seat's entry a tombstone, also where there is none.
     pub fn delete(&mut self, seat: u64, time: u64, reading: u64) -> Result<Change, Refusal>
-        ensures step { (k : Kind) → Took (step k self.old.membership (memory self.old) (deletes seat time reading)) self.old (outcome changeOf result) self.new }
+        ensures step { (k : Kind) → Took (step k self.old.membership (memory self.old) (deletes seat time reading)) self.old (outcome change_of result) self.new }
     {
         if !are_times(time, reading) {
             return Err(Refusal::Time);
@@ -94,7 +94,7 @@ impl Replica {
 
     // Whether the seat has a tombstone.
     fn is_deleted(&self, seat: u64) -> bool
-        ensures answer { result ≡ hasTombstone (find (contents self.now.table) seat) }
+        ensures answer { result ≡ has_tombstone (find (contents self.now.table) seat) }
     {
         match self.table.find(seat) {
             Some(state) => match state {
@@ -130,7 +130,7 @@ impl Replica {
     fn store(&mut self, seat: u64, state: State, raised: Timestamp, reading: u64)
         requires raised { raise self.old.membership (memory self.old) seat state ≡ Ok raised }
         requires reading { nat_le reading latest ≡ true }
-        requires wide { wideState state ≡ true }
+        requires wide { wide_state state ≡ true }
         requires allowed { allowed raised state ≡ true }
         ensures after { memory self.new ≡ stored self.old.membership (memory self.old) reading seat state raised }
         ensures kept { self.new.membership ≡ self.old.membership }

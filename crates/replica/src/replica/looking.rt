@@ -1,7 +1,7 @@
 // Looking into a replica: what it knows of a seat, and what it is.
 ghost use Rattle.std.specs.Prelude.{◌≡◌, true};
-ghost use Rattle.replica.specs.Contents.{memory, replyOf};
-ghost use Rattle.replica.specs.Memories.{soundMemory};
+ghost use Rattle.replica.specs.Contents.{memory, reply_of};
+ghost use Rattle.replica.specs.Memories.{sound_memory};
 ghost use Rattle.replica.specs.Steps.{lookup};
 
 use super::Replica;
@@ -12,7 +12,7 @@ use gossip::{State, Timestamp};
 impl Replica {
     // What is known of a seat, where the asked timestamp is at or under the replica's; else the replica is behind, also where neither is at or under the other.
     pub fn lookup(&self, seat: u64, asked: &Timestamp) -> Lookup
-        ensures answer { replyOf result ≡ lookup (memory self.now) seat asked.now }
+        ensures answer { reply_of result ≡ lookup (memory self.now) seat asked.now }
     {
         let (under, _) = asked.compare(&self.timestamp);
         if !under {
@@ -38,7 +38,7 @@ impl Replica {
     // The replica's timestamp.
     pub fn timestamp(&self) -> Timestamp
         ensures answer { result ≡ (memory self.now).timestamp }
-        ensures sound { soundMemory self.now.membership (memory self.now) ≡ true }
+        ensures sound { sound_memory self.now.membership (memory self.now) ≡ true }
     {
         self.timestamp
     }

@@ -2,8 +2,8 @@
 ghost use Rattle.std.specs.Prelude.{◌≡◌, true, ◌&&◌, OnOk, ◌==◌};
 ghost use Rattle.checkpoint.specs.Refusals.{outcome};
 ghost use Rattle.replica.specs.Contents.{memory};
-ghost use Rattle.replica.specs.Memories.{ofKindMemory};
-ghost use Rattle.replica.specs.Restoring.{encodeMemory, decodeMemory, restored};
+ghost use Rattle.replica.specs.Memories.{of_kind_memory};
+ghost use Rattle.replica.specs.Restoring.{encode_memory, decode_memory, restored};
 
 use super::Replica;
 use checkpoint::{Checkpoint, Unreadable};
@@ -12,11 +12,11 @@ use gossip::{Head, Lattice};
 impl Replica {
     // Becomes what the bytes of its checkpoint say, in the memory that is there; a refusal changes nothing.
     pub fn restore<L: Lattice>(&mut self, bytes: &[u8]) -> Result<(), Unreadable>
-        ensures answer { outcome (λ _. memory self.new) result ≡ decodeMemory kind self.old.membership bytes.now }
-        ensures after { memory self.new ≡ restored (decodeMemory kind self.old.membership bytes.now) (memory self.old) }
+        ensures answer { outcome (λ _. memory self.new) result ≡ decode_memory kind self.old.membership bytes.now }
+        ensures after { memory self.new ≡ restored (decode_memory kind self.old.membership bytes.now) (memory self.old) }
         ensures kept { self.new.membership ≡ self.old.membership }
-        ensures spelling { OnOk result (bytes.now ≡ encodeMemory kind self.old.membership (memory self.new)) }
-        ensures kind { OnOk result (ofKindMemory kind (memory self.new) ≡ true) }
+        ensures spelling { OnOk result (bytes.now ≡ encode_memory kind self.old.membership (memory self.new)) }
+        ensures kind { OnOk result (of_kind_memory kind (memory self.new) ≡ true) }
     {
         let checkpoint = Checkpoint::read::<L>(bytes)?;
         let message = checkpoint.message();

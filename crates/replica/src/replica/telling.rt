@@ -5,8 +5,8 @@ ghost use Rattle.gossip.specs.Format.{decode, encode};
 ghost use Rattle.gossip.specs.Numbers.{put_at};
 ghost use Rattle.checkpoint.specs.Contents.{saved};
 ghost use Rattle.replica.specs.Contents.{memory};
-ghost use Rattle.replica.specs.Memories.{messageOf, savedOf, ofKindMemory};
-ghost use Rattle.replica.specs.Restoring.{encodeMemory, decodeMemory};
+ghost use Rattle.replica.specs.Memories.{message_of, saved_of, of_kind_memory};
+ghost use Rattle.replica.specs.Restoring.{encode_memory, decode_memory};
 
 use super::Replica;
 use checkpoint::Checkpoint;
@@ -15,7 +15,7 @@ use gossip::{Gossip, Head, Lattice, ROOM};
 impl Replica {
     // The message that tells what the replica knows.
     pub fn message(&self) -> Gossip
-        ensures answer { said result ≡ messageOf self.now.membership (memory self.now) }
+        ensures answer { said result ≡ message_of self.now.membership (memory self.now) }
     {
         let mut message = self.opening();
         for i in 0..self.table.len() {
@@ -28,32 +28,32 @@ impl Replica {
 
     // Its checkpoint: the message, and the rows.
     pub fn checkpoint(&self) -> Checkpoint
-        ensures answer { saved result ≡ savedOf self.now.membership (memory self.now) }
+        ensures answer { saved result ≡ saved_of self.now.membership (memory self.now) }
     {
         Checkpoint::new(self.message(), self.rows).unwrap()
     }
 
     // Writes the message to the front of the bytes and leaves the rest. The answer is its length.
     pub fn write_message<L: Lattice>(&self, out: &mut [u8; ROOM]) -> usize
-        ensures answer { result ≡ length (encode kind (messageOf self.now.membership (memory self.now))) }
-        ensures buffer { out.new ≡ put_at 0 (encode kind (messageOf self.now.membership (memory self.now))) out.old }
-        ensures back { ofKindMemory kind (memory self.now) ≡ true → decode kind (take result out.new) ≡ Ok (messageOf self.now.membership (memory self.now)) }
+        ensures answer { result ≡ length (encode kind (message_of self.now.membership (memory self.now))) }
+        ensures buffer { out.new ≡ put_at 0 (encode kind (message_of self.now.membership (memory self.now))) out.old }
+        ensures back { of_kind_memory kind (memory self.now) ≡ true → decode kind (take result out.new) ≡ Ok (message_of self.now.membership (memory self.now)) }
     {
         self.message().spell::<L>(out)
     }
 
     // Writes the checkpoint to the front of the bytes and leaves the rest. The answer is its length.
     pub fn write_checkpoint<L: Lattice>(&self, out: &mut [u8; ROOM]) -> usize
-        ensures answer { result ≡ length (encodeMemory kind self.now.membership (memory self.now)) }
-        ensures buffer { out.new ≡ put_at 0 (encodeMemory kind self.now.membership (memory self.now)) out.old }
-        ensures back { ofKindMemory kind (memory self.now) ≡ true → decodeMemory kind self.now.membership (take result out.new) ≡ Ok (memory self.now) }
+        ensures answer { result ≡ length (encode_memory kind self.now.membership (memory self.now)) }
+        ensures buffer { out.new ≡ put_at 0 (encode_memory kind self.now.membership (memory self.now)) out.old }
+        ensures back { of_kind_memory kind (memory self.now) ≡ true → decode_memory kind self.now.membership (take result out.new) ≡ Ok (memory self.now) }
     {
         self.checkpoint().write::<L>(out)
     }
 
     // Its message without the entries.
     fn opening(&self) -> Gossip
-        ensures answer { said result ≡ record { head = (messageOf self.now.membership (memory self.now)).head; entries = [] } }
+        ensures answer { said result ≡ record { head = (message_of self.now.membership (memory self.now)).head; entries = [] } }
     {
         let head = Head {
             n: self.membership.n,

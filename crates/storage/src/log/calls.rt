@@ -5,7 +5,7 @@ ghost use Rattle.std.specs.Prelude.{◌≡◌, ◌≤◌, [], length, replicate,
 ghost use Rattle.storage.specs.Halves.{contents};
 ghost use Rattle.storage.specs.Logged.{logged};
 ghost use Rattle.storage.specs.Logs.{read_log, or_else};
-ghost use Rattle.storage.specs.Indexes.{contents-lawful};
+ghost use Rattle.storage.specs.Indexes.{contents_lawful};
 
 use super::LogStore;
 use super::half::Half;
@@ -75,7 +75,7 @@ impl LogStore {
 impl Store for LogStore {
     ghost saved = { logged };
 
-    ghost lawful = { λ s. contents-lawful s.active };
+    ghost lawful = { λ s. contents_lawful s.active };
 
     fn save(&mut self, number: usize, bytes: &[u8]) -> Result<(), Refusal> {
         if number > LAST_NUMBER {

@@ -1,7 +1,7 @@
 // What a store of seven places does.
 ghost use Rattle.std.specs.Prelude.{◌≡◌, ◌≤◌, [], length, replicate, IfOk};
 ghost use Rattle.storage.specs.Slotted.{slotted, bytes_of};
-ghost use Rattle.storage.specs.Slotting.{slots-lawful};
+ghost use Rattle.storage.specs.Slotting.{slots_lawful};
 
 use super::{Slot, SlotStore};
 use crate::refusals::Refusal;
@@ -32,7 +32,7 @@ fn filled(bytes: &[u8]) -> Slot
 impl Store for SlotStore {
     ghost saved = { slotted };
 
-    ghost lawful = { λ s. slots-lawful s };
+    ghost lawful = { λ s. slots_lawful s };
 
     fn save(&mut self, number: usize, bytes: &[u8]) -> Result<(), Refusal> {
         if number > LAST_NUMBER {

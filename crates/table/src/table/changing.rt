@@ -6,7 +6,7 @@ ghost use Rattle.std.specs.List.{remove};
 ghost use Rattle.gossip.specs.contracts.entry.State.{the_row as state-row};
 ghost use Rattle.table.specs.Contents.{contents};
 ghost use Rattle.table.specs.Entries.{find, changed, put};
-ghost use Rattle.table.specs.Refusals.{outcome, ifFits};
+ghost use Rattle.table.specs.Refusals.{outcome, if_fits};
 ghost use Rattle.table.specs.contracts.table.Table.{the_row as table-row};
 
 use super::{ENTRIES, Table};
@@ -25,7 +25,7 @@ impl Table {
 
     // The seat's entry, changed or added in its place; refused where a table would have more than 64, and nothing changes then.
     pub fn put(&mut self, seat: u64, state: State) -> Result<(), Full>
-        ensures answer { outcome result ≡ ifFits (put (contents self.old) seat state) }
+        ensures answer { outcome result ≡ if_fits (put (contents self.old) seat state) }
         ensures after { contents self.new ≡ (if is_ok result then put (contents self.old) seat state else contents self.old) }
     {
         match self.state_mut(seat) {
@@ -40,7 +40,7 @@ impl Table {
     // Adds an entry for a seat that has none. The memory is there, so that neither insertion can fail.
     fn insert(&mut self, seat: u64, state: State) -> Result<(), Full>
         requires { find (contents self.old) seat ≡ None }
-        ensures answer { outcome result ≡ ifFits (put (contents self.old) seat state) }
+        ensures answer { outcome result ≡ if_fits (put (contents self.old) seat state) }
         ensures after { contents self.new ≡ (if is_ok result then put (contents self.old) seat state else contents self.old) }
     {
         if self.seats.len() >= ENTRIES {

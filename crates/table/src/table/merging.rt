@@ -3,7 +3,7 @@ ghost use Rattle.std.specs.Prelude.{◌≡◌, is_ok, if◌then◌else◌};
 ghost use Rattle.gossip.specs.Contents.{contents as said};
 ghost use Rattle.table.specs.Contents.{contents};
 ghost use Rattle.table.specs.Entries.{absorbed, merge, fresh};
-ghost use Rattle.table.specs.Refusals.{outcome, ifFits};
+ghost use Rattle.table.specs.Refusals.{outcome, if_fits};
 
 use super::{ENTRIES, Table};
 use crate::combining::combine;
@@ -13,7 +13,7 @@ use gossip::{Entry, Gossip, Lattice};
 impl Table {
     // Takes in a message's entries; refused where more than 64 would result, and nothing changes then. So the fresh seats are counted first.
     pub fn merge<L: Lattice>(&mut self, message: &Gossip) -> Result<(), Full>
-        ensures answer { outcome result ≡ ifFits (merge kind.join (contents self.old) (said message.now).entries) }
+        ensures answer { outcome result ≡ if_fits (merge kind.join (contents self.old) (said message.now).entries) }
         ensures after { contents self.new ≡ (if is_ok result then merge kind.join (contents self.old) (said message.now).entries else contents self.old) }
     {
         let entries = message.entries();
@@ -41,7 +41,7 @@ impl Table {
 
     // Takes in one entry: what it says of its seat is combined with what is held.
     fn absorb<L: Lattice>(&mut self, told: Entry) -> Result<(), Full>
-        ensures answer { outcome result ≡ ifFits (absorbed kind.join (contents self.old) told.seat told.state) }
+        ensures answer { outcome result ≡ if_fits (absorbed kind.join (contents self.old) told.seat told.state) }
         ensures after { contents self.new ≡ (if is_ok result then absorbed kind.join (contents self.old) told.seat told.state else contents self.old) }
     {
         let state = match self.find(told.seat) {

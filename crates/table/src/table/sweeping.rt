@@ -1,7 +1,7 @@
 // Removing the tombstones that are no longer needed.
 ghost use Rattle.std.specs.Prelude.{◌≡◌, length};
 ghost use Rattle.table.specs.Contents.{contents};
-ghost use Rattle.table.specs.Entries.{underRows, expired, swept, removable};
+ghost use Rattle.table.specs.Entries.{under_rows, expired, swept, removable};
 
 use super::Table;
 use gossip::{State, Timestamp};
@@ -41,7 +41,7 @@ fn is_expired(state: State, grace: u64, clock: u64, rows: &[Timestamp]) -> bool
 
 // Whether a timestamp is at or under every row.
 fn is_under(timestamp: &Timestamp, rows: &[Timestamp]) -> bool
-    ensures answer { result ≡ underRows timestamp.now.parts rows.now }
+    ensures answer { result ≡ under_rows timestamp.now.parts rows.now }
 {
     for i in 0..rows.len() {
         let (under, _) = timestamp.compare(&rows[i]);

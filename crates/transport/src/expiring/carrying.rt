@@ -1,9 +1,9 @@
 // The layer as a transport, proved once over any transport below.
 ghost use Rattle.std.specs.Prelude.{◌≡◌, ◌-◌, [], ◌++◌, length, take};
 ghost use Rattle.transport.specs.Parcels.{parcel, Posted, Kept, measured};
-ghost use Rattle.transport.specs.Refusals.{postAnswer, taken};
+ghost use Rattle.transport.specs.Refusals.{post_answer, taken};
 ghost use Rattle.transport.specs.Timed.{eight, untimed, fresh};
-ghost use Rattle.transport.specs.Timings.{untimed-lawful};
+ghost use Rattle.transport.specs.Timings.{untimed_lawful};
 
 use super::Expiring;
 use super::readings::{FRONT, put_in_front, take_off};
@@ -22,11 +22,11 @@ impl<T: Transport> Transport for Expiring<T> {
 
     ghost next = { λ e to reading. fresh e.grace reading (T.Transport.next e.below to reading) };
 
-    ghost lawful = { λ t. untimed-lawful t.grace (T.Transport.lawful t.below) };
+    ghost lawful = { λ t. untimed_lawful t.grace (T.Transport.lawful t.below) };
 
     // Posts below with the reading in front.
     fn post(&mut self, to: usize, reading: u64, bytes: &[u8]) -> Result<(), Refusal>
-        ensures answer { result ≡ postAnswer (T.Transport.isOpen self.old.below to reading) (T.Transport.longest self.old.below - 8) (length bytes.now) }
+        ensures answer { result ≡ post_answer (T.Transport.isOpen self.old.below to reading) (T.Transport.longest self.old.below - 8) (length bytes.now) }
         ensures lost { Posted (untimed (T.Transport.held self.old.below)) (taken result (parcel to bytes.now)) (untimed (T.Transport.held self.new.below)) }
         ensures kept { T.Transport.longest self.new.below - 8 ≡ T.Transport.longest self.old.below - 8 }
         ensures timed { Posted (T.Transport.held self.old.below) (taken result (parcel to (eight reading ++ bytes.now))) (T.Transport.held self.new.below) }

@@ -1,9 +1,9 @@
 // A mailbox as a transport: open while a place is free, and each addressee gets his oldest message.
 ghost use Rattle.std.specs.Prelude.{◌≡◌, ◌++◌, length, take};
 ghost use Rattle.transport.specs.Parcels.{parcel, Kept, Posted, measured, oldest, without};
-ghost use Rattle.transport.specs.Refusals.{postAnswer, taken};
+ghost use Rattle.transport.specs.Refusals.{post_answer, taken};
 ghost use Rattle.transport.specs.Mailboxes.{parcels, most, free};
-ghost use Rattle.transport.specs.Boxes.{mailbox-lawful};
+ghost use Rattle.transport.specs.Boxes.{mailbox_lawful};
 
 use super::Mailbox;
 use super::places::filled;
@@ -19,11 +19,11 @@ impl Transport for Mailbox {
 
     ghost next = { λ m to _. oldest to (parcels m) };
 
-    ghost lawful = { λ m. mailbox-lawful m };
+    ghost lawful = { λ m. mailbox_lawful m };
 
     // Loses no message.
     fn post(&mut self, to: usize, _reading: u64, bytes: &[u8]) -> Result<(), Refusal>
-        ensures answer { result ≡ postAnswer (free self.old) (most self.old) (length bytes.now) }
+        ensures answer { result ≡ post_answer (free self.old) (most self.old) (length bytes.now) }
         ensures lost { Posted (parcels self.old) (taken result (parcel to bytes.now)) (parcels self.new) }
         ensures kept { most self.new ≡ most self.old }
         ensures exact { parcels self.new ≡ parcels self.old ++ taken result (parcel to bytes.now) }

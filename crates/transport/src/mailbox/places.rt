@@ -1,7 +1,7 @@
 // Making a mailbox, and its places.
 ghost use Rattle.std.specs.Prelude.{◌≡◌, ℕ, ◌<◌, ◌≤◌, [], length, IfOk, vec_len, ◌≢◌, nat_le, slice_index_or};
 ghost use Rattle.transport.specs.Parcels.{parcel};
-ghost use Rattle.transport.specs.Mailboxes.{parcels, parcelAt};
+ghost use Rattle.transport.specs.Mailboxes.{parcels, parcel_at};
 
 use super::{Mailbox, PLACES, Place};
 use crate::transport::MOST_BYTES;
@@ -42,7 +42,7 @@ impl Mailbox {
 pub(super) fn filled(to: usize, bytes: &[u8]) -> Place
     requires some { 1 ≤ length bytes.now }
     requires few { length bytes.now ≤ 3200 }
-    ensures answer { parcelAt result ≡ parcel to bytes.now }
+    ensures answer { parcel_at result ≡ parcel to bytes.now }
 {
     let len = bytes.len();
     let mut all = [0u8; MOST_BYTES];

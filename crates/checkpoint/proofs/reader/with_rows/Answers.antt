@@ -1,8 +1,8 @@
 use Rattle.std.proofs.Common.{ap, ◌∙◌}
 use Rattle.gossip.specs.Contents.{contents}
 use Rattle.gossip.specs.declared.head.Head.{Head}
-use Rattle.checkpoint.specs.Format.{rows_at, rowsLength}
-use Rattle.checkpoint.proofs.Reading.{rows-joined}
+use Rattle.checkpoint.specs.Format.{rows_at, rows_length}
+use Rattle.checkpoint.proofs.Reading.{rows_joined}
 use Rattle.checkpoint.proofs.reader.with_rows.Goals as goal
 
 pub returns : goal.returns
@@ -10,6 +10,6 @@ returns c =
     let m = contents c.args.message in
     let b = c.args.bytes.now in
     let n = ap (λ (h : Head). h.n) c.head-n.ensures.answer in
-    let long = c.if-bytes-n.false ∙ ap rowsLength n in
+    let long = c.if-bytes-n.false ∙ ap rows_length n in
     let rows = c.read-rows.ensures ∙ ap (λ k. rows_at k b) n in
-    c.new.ensures.answer ∙ rows-joined m b c.read-rows.result c.head-n.ensures.sound (λ i. (c.type-inv.bytes i).fits) long rows
+    c.new.ensures.answer ∙ rows_joined m b c.read-rows.result c.head-n.ensures.sound (λ i. (c.type-inv.bytes i).fits) long rows

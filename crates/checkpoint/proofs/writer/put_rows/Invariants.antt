@@ -1,7 +1,7 @@
 use Rattle.std.proofs.Common.{◌*◌}
-use Rattle.gossip.specs.Format.{encodeTimestamp}
+use Rattle.gossip.specs.Format.{encode_timestamp}
 use Rattle.gossip.proofs.Written.{Written}
 use Rattle.checkpoint.proofs.writer.put_rows.Given as goal
 
 abbrev pub invariant-loop-i : goal.invariant-loop-i
-invariant-loop-i l = Written (encodeTimestamp l.n) (4 * l.n) l.at l.rows l.initial.out l.i l.out
+invariant-loop-i l = Written (encode_timestamp l.n) (4 * l.n) l.at l.rows l.initial.out l.i l.out

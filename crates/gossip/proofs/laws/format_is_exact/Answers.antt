@@ -1,5 +1,5 @@
-use Rattle.gossip.proofs.FormatTheorems.{reads-back, sole-spelling, reads-sound}
+use Rattle.gossip.proofs.FormatTheorems.{reads_back, sole_spelling, reads_sound}
 use Rattle.gossip.proofs.laws.format_is_exact.Goals as goal
 
 pub returns : goal.returns
-returns c = record { back = reads-back; sole = sole-spelling; sound = reads-sound }
+returns c = record { back = reads_back; sole = sole_spelling; sound = reads_sound }

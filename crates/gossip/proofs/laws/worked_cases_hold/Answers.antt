@@ -1,7 +1,7 @@
 use Rattle.std.proofs.Common.{length, refl, arith}
-use Rattle.gossip.proofs.FormatTheorems.{sound-long}
-use Rattle.gossip.proofs.Sound.{parts, head-parts}
-use Rattle.gossip.proofs.Written.{message-fits}
+use Rattle.gossip.proofs.FormatTheorems.{sound_long}
+use Rattle.gossip.proofs.Sound.{parts, head_to_parts}
+use Rattle.gossip.proofs.Written.{message_fits}
 use Rattle.gossip.proofs.laws.worked_cases_hold.Goals as goal
 
 pub returns : goal.returns
@@ -11,8 +11,8 @@ returns c = record {
   together = refl;
   union = refl;
   larger = refl;
-  length-of = sound-long;
-  at_most = λ k m s. let p = parts m s in omega (arith, sound-long k m s, message-fits m.head.n (length m.entries) (head-parts m.head p.head).most p.few);
+  length_of = sound_long;
+  at_most = λ k m s. let p = parts m s in omega (arith, sound_long k m s, message_fits m.head.n (length m.entries) (head_to_parts m.head p.head).most p.few);
   shortest = refl;
   longest = refl;
 }

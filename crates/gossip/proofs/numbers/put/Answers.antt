@@ -1,7 +1,7 @@
 use Rattle.std.proofs.Common.{◌≡◌, ◌+◌, ◌-◌, length, take, drop, ap, ◌∙◌, arith, length-drop, length-take}
 use Rattle.gossip.specs.Numbers.{bytes, put_at}
 use Rattle.gossip.proofs.NumberLaws.{length-bytes}
-use Rattle.gossip.proofs.Puts.{put-mid}
+use Rattle.gossip.proofs.Puts.{put_mid-put_at}
 use Rattle.gossip.proofs.numbers.put.Goals as goal
 
 pub returns : goal.returns
@@ -12,4 +12,4 @@ returns c =
     let k : length (take (at + w - at) (drop at o)) ≡ w = simp (length-take, length-drop) (omega arith) in
     let y : c.write-le.new.out ≡ bytes w c.args.value = c.write-le.ensures ∙ ap (λ j. bytes j c.args.value) k in
     let l : length c.write-le.new.out ≡ at + w - at = ap length y ∙ length-bytes w c.args.value ∙ (omega arith) in
-    put-mid at (at + w - at) o c.write-le.new.out l ∙ ap (λ z. put_at at z o) y
+    put_mid-put_at at (at + w - at) o c.write-le.new.out l ∙ ap (λ z. put_at at z o) y

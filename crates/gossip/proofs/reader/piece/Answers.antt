@@ -1,10 +1,10 @@
 use Rattle.std.proofs.Common.{◌≡◌, ◌+◌, ◌-◌, ◌*◌, take, drop, sym, ap, ◌∙◌, arith, length-drop, length-take}
-use Rattle.gossip.proofs.NumberLaws.{piece-within, pieces-at}
+use Rattle.gossip.proofs.NumberLaws.{piece_within, pieces-at}
 use Rattle.gossip.proofs.reader.piece.Goals as goal
 
 pub slice-bounds-result-end : goal.slice-bounds-result-end
 slice-bounds-result-end c =
-    let f = piece-within c.args.i c.args.count c.args.size c.requires.within in
+    let f = piece_within c.args.i c.args.count c.args.size c.requires.within in
     omega (arith, c.requires.whole)
 
 pub returns : goal.returns
@@ -12,7 +12,7 @@ returns c =
     let b = c.args.bytes.now in
     let s = c.args.size in
     let at = c.args.i * c.args.size in
-    let f = piece-within c.args.i c.args.count c.args.size c.requires.within in
+    let f = piece_within c.args.i c.args.count c.args.size c.requires.within in
     let w : c.args.i * c.args.size + c.args.size - c.args.i * c.args.size ≡ c.args.size = omega arith in
     record {
       value = ap (λ k. take k (drop at b)) w ∙ sym (pieces-at s c.args.count b c.args.i _ c.requires.within);

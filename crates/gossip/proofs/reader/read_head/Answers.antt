@@ -1,9 +1,9 @@
 use Rattle.std.proofs.Common.{◌≡◌, Ok, sym, ap, ◌∙◌, ap₂, arith}
-use Rattle.gossip.specs.Format.{decodeHead, messageLength}
+use Rattle.gossip.specs.Format.{decode_head, message_length}
 use Rattle.gossip.specs.Messages.{origin}
 use Rattle.gossip.specs.declared.head.Head.{Head}
 use Rattle.gossip.proofs.FormatTheorems.{head-sound}
-use Rattle.gossip.proofs.Reading.{short, misformed, other-kind, no_origin, mislaid, too-late, head_read, laid-out-is, laid-count, laid-length, head_at, field-rest, timestamp-rest}
+use Rattle.gossip.proofs.Reading.{short, misformed, other_kind, no_origin, mislaid, too_late, head_read, laid_out_is, laid_count, laid_length, head_at_lem, field-rest, timestamp_rest}
 use Rattle.gossip.proofs.reader.read_head.Goals as goal
 
 pub returns-then-bytes-lt-FRONT : goal.returns-then-bytes-lt-FRONT
@@ -14,7 +14,7 @@ returns-then-form-ne-FORM g c = record { answer = misformed _ _ c.if-bytes-lt-FR
 
 pub returns-then-kind-number : goal.returns-then-kind-number
 returns-then-kind-number g c =
-    record { answer = other-kind _ _ c.if-bytes-lt-FRONT.false c.if-form-ne-FORM.false (λ e. c.if-kind-number.true (e ∙ sym c.number.ensures.answer)); count = tt; sound = tt }
+    record { answer = other_kind _ _ c.if-bytes-lt-FRONT.false c.if-form-ne-FORM.false (λ e. c.if-kind-number.true (e ∙ sym c.number.ensures.answer)); count = tt; sound = tt }
 
 pub returns-then-not-is-origin : goal.returns-then-not-is-origin
 returns-then-not-is-origin g c =
@@ -30,7 +30,7 @@ returns-then-not-is-laid-out g c =
     let b = c.args.bytes.now in
     let f = c.read-fields-fields.ensures in
     let o = sym (ap₂ origin c.from-n.ensures c.from-sender.ensures) ∙ sym c.if-not-is-origin.ensures in
-    let l = laid-out-is g.L.Lattice.kind b c.if-not-is-laid-out.ensures c.from-n.ensures f.count f.timestamp-at f.entries_at f.len in
+    let l = laid_out_is g.L.Lattice.kind b c.if-not-is-laid-out.ensures c.from-n.ensures f.count f.timestamp-at f.entries_at f.len in
     record { answer = mislaid _ b c.if-bytes-lt-FRONT.false c.if-form-ne-FORM.false (c.if-kind-number.false ∙ c.number.ensures.answer) o l; count = tt; sound = tt }
 
 pub returns-then-fields-gt-LATEST : goal.returns-then-fields-gt-LATEST
@@ -38,9 +38,9 @@ returns-then-fields-gt-LATEST g c =
     let b = c.args.bytes.now in
     let f = c.read-fields-fields.ensures in
     let o = sym (ap₂ origin c.from-n.ensures c.from-sender.ensures) ∙ sym c.if-not-is-origin.ensures in
-    let l = laid-out-is g.L.Lattice.kind b c.if-not-is-laid-out.ensures c.from-n.ensures f.count f.timestamp-at f.entries_at f.len in
+    let l = laid_out_is g.L.Lattice.kind b c.if-not-is-laid-out.ensures c.from-n.ensures f.count f.timestamp-at f.entries_at f.len in
     let t = f.clock ∙ field-rest 4 12 8 b in
-    record { answer = too-late _ b c.if-bytes-lt-FRONT.false c.if-form-ne-FORM.false (c.if-kind-number.false ∙ c.number.ensures.answer) o l (omega arith); count = tt; sound = tt }
+    record { answer = too_late _ b c.if-bytes-lt-FRONT.false c.if-form-ne-FORM.false (c.if-kind-number.false ∙ c.number.ensures.answer) o l (omega arith); count = tt; sound = tt }
 
 pub returns : goal.returns
 returns g c =
@@ -48,15 +48,15 @@ returns g c =
     let k = g.L.Lattice.kind in
     let f = c.read-fields-fields.ensures in
     let o = sym (ap₂ origin c.from-n.ensures c.from-sender.ensures) ∙ sym c.if-not-is-origin.ensures in
-    let l = laid-out-is k b c.if-not-is-laid-out.ensures c.from-n.ensures f.count f.timestamp-at f.entries_at f.len in
+    let l = laid_out_is k b c.if-not-is-laid-out.ensures c.from-n.ensures f.count f.timestamp-at f.entries_at f.len in
     let t = f.clock ∙ field-rest 4 12 8 b in
     let m = c.from.ensures ∙ f.count ∙ field-rest 4 4 2 b in
     let h : Head = record { n = c.from-n.result; sender = c.from-sender.result; group = c.read-fields-fields.result.group; clock = c.read-fields-fields.result.clock; timestamp = c.from-bytes-timestamp.result } in
-    let a : Ok h ≡ decodeHead k b
-    = ap Ok (head_at b h c.from-n.ensures c.from-sender.ensures (f.group ∙ field-rest 4 0 4 b) t (c.from-bytes-timestamp.ensures ∙ timestamp-rest 24 _ b))
+    let a : Ok h ≡ decode_head k b
+    = ap Ok (head_at_lem b h c.from-n.ensures c.from-sender.ensures (f.group ∙ field-rest 4 0 4 b) t (c.from-bytes-timestamp.ensures ∙ timestamp_rest 24 _ b))
     ∙ head_read k b c.if-bytes-lt-FRONT.false c.if-form-ne-FORM.false (c.if-kind-number.false ∙ c.number.ensures.answer) o l (omega arith) in
     record {
       answer = a;
-      count = (m, omega (arith, laid-count k b l), laid-length k b l ∙ ap₂ messageLength (sym c.from-n.ensures) (sym m));
+      count = (m, omega (arith, laid_count k b l), laid_length k b l ∙ ap₂ message_length (sym c.from-n.ensures) (sym m));
       sound = head-sound k b h (λ i. (c.type-inv.bytes i).fits) (sym a);
     }

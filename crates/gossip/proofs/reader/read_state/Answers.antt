@@ -1,21 +1,21 @@
 use Rattle.std.proofs.Common.{◌≡◌, sym, ◌∙◌, rules}
-use Rattle.gossip.proofs.Reading.{timestamp-rest, state-value, state-tombstone, state-none}
+use Rattle.gossip.proofs.Reading.{timestamp_rest, state_value, state_tombstone, state_none}
 use Rattle.gossip.proofs.reader.read_state.Goals as goal
 
 pub returns-in-1 : goal.returns-in-1
 returns-in-1 g c =
     c.read-value.ensures
-    ∙ state-value _ c.args.n c.args.top.now c.args.entry.now c.u64-at.ensures (c.from-bytes-timestamp.ensures ∙ timestamp-rest 20 c.args.n c.args.entry.now)
+    ∙ state_value _ c.args.n c.args.top.now c.args.entry.now c.u64-at.ensures (c.from-bytes-timestamp.ensures ∙ timestamp_rest 20 c.args.n c.args.entry.now)
     (sym c.u32-at.ensures ∙ c.in-1.is)
 
 pub returns-in-2 : goal.returns-in-2
 returns-in-2 g c =
     c.read-tombstone.ensures
-    ∙ state-tombstone _ c.args.n c.args.top.now c.args.entry.now c.u64-at-in-2.ensures (c.from-bytes-timestamp.ensures ∙ timestamp-rest 20 c.args.n c.args.entry.now)
+    ∙ state_tombstone _ c.args.n c.args.top.now c.args.entry.now c.u64-at-in-2.ensures (c.from-bytes-timestamp.ensures ∙ timestamp_rest 20 c.args.n c.args.entry.now)
     (sym c.u32-at.ensures ∙ c.in-2.is)
 
 pub returns-in-default : goal.returns-in-default
 returns-in-default g c =
     let a : c.u32-at.result ≡ 1 → ⊥ = search rules in
     let b : c.u32-at.result ≡ 2 → ⊥ = search rules in
-    state-none _ c.args.n c.args.top.now c.args.entry.now (λ e. a (c.u32-at.ensures ∙ e)) (λ e. b (c.u32-at.ensures ∙ e))
+    state_none _ c.args.n c.args.top.now c.args.entry.now (λ e. a (c.u32-at.ensures ∙ e)) (λ e. b (c.u32-at.ensures ∙ e))

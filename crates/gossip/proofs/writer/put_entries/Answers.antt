@@ -1,26 +1,26 @@
 use Rattle.std.proofs.Common.{◌≡◌, length, refl, arith, take_all}
-use Rattle.gossip.specs.Format.{encodeEntry, entryLength}
-use Rattle.gossip.proofs.NumberLaws.{piece-within}
+use Rattle.gossip.specs.Format.{encode_entry, entry_length}
+use Rattle.gossip.proofs.NumberLaws.{piece_within}
 use Rattle.gossip.proofs.Written.{written_start, written_next}
 use Rattle.gossip.proofs.writer.put_entries.Goals as goal
 
 pub loop-i-init : goal.loop-i-init
-loop-i-init c = written_start (encodeEntry c.args.n) (entryLength c.args.n) _ _ _
+loop-i-init c = written_start (encode_entry c.args.n) (entry_length c.args.n) _ _ _
 
 pub overflow-add-at : goal.overflow-add-at
 overflow-add-at c =
-    let f = piece-within c.loop-i.i (length c.args.entries.now) (entryLength c.args.n) c.loop-i-test.true in
+    let f = piece_within c.loop-i.i (length c.args.entries.now) (entry_length c.args.n) c.loop-i-test.true in
     omega arith
 
 pub put-entry-requires : goal.put-entry-requires
 put-entry-requires c =
-    let f = piece-within c.loop-i.i (length c.args.entries.now) (entryLength c.args.n) c.loop-i-test.true in
+    let f = piece_within c.loop-i.i (length c.args.entries.now) (entry_length c.args.n) c.loop-i-test.true in
     record { few = c.requires.few; within = omega arith }
 
 pub loop-i-preserved : goal.loop-i-preserved
 loop-i-preserved c =
-    let f = piece-within c.loop-i.i (length c.args.entries.now) (entryLength c.args.n) c.loop-i-test.true in
-    written_next (encodeEntry c.args.n) (entryLength c.args.n) _ _ _ _ _ _ _ _ _ c.loop-i.invariant c.loop-i-test.true refl
+    let f = piece_within c.loop-i.i (length c.args.entries.now) (entry_length c.args.n) c.loop-i-test.true in
+    written_next (encode_entry c.args.n) (entry_length c.args.n) _ _ _ _ _ _ _ _ _ c.loop-i.invariant c.loop-i-test.true refl
     c.put-entry.ensures.long (omega arith) (omega arith) c.put-entry.ensures.written
 
 pub returns : goal.returns

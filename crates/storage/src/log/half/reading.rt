@@ -1,13 +1,13 @@
 // Reading a half.
 ghost use Rattle.std.specs.Prelude.{◌≡◌, ◌+◌, ◌≤◌, [], nat_le, slice_index_or};
-ghost use Rattle.storage.specs.Halves.{inUse, contents};
+ghost use Rattle.storage.specs.Halves.{in_use, contents};
 
 use super::{CAPACITY, HEAD, Half};
 
 impl Half {
     // The bytes in use.
     pub fn in_use(&self) -> &[u8]
-        ensures answer { result.now ≡ inUse self.now }
+        ensures answer { result.now ≡ in_use self.now }
     {
         let used = self.used;
         &self.bytes[0..used]

@@ -1,7 +1,7 @@
 // Taking the bytes of a log into a half.
 ghost use Rattle.std.specs.Prelude.{◌≡◌, ◌+◌, length, is_ok, if◌then◌else◌, Some, None};
 ghost use Rattle.storage.specs.Halves.{contents};
-ghost use Rattle.storage.specs.Logs.{read_log, sound, size, soundHead};
+ghost use Rattle.storage.specs.Logs.{read_log, sound, size, sound_head};
 
 use super::{CAPACITY, HEAD, Half};
 use crate::refusals::NotALog;
@@ -48,7 +48,7 @@ fn body_len(rest: &[u8]) -> Option<usize>
 
 // Whether a head gives a number, a zero, and a length that can be saved and is not more than what is left.
 fn is_sound(number: usize, zero: u8, len: usize, left: usize) -> bool
-    ensures answer { result ≡ soundHead number «zero» len left }
+    ensures answer { result ≡ sound_head number «zero» len left }
 {
     number <= LAST_NUMBER && zero == 0 && len >= 1 && len <= MAX_BYTES && len <= left
 }

@@ -1,6 +1,6 @@
 // Writing a half: what is written counts only once it is committed.
 ghost use Rattle.std.specs.Prelude.{◌≡◌, ◌+◌, ◌≤◌, [], length, replicate, IfOk, vec_len, slice_set};
-ghost use Rattle.storage.specs.Halves.{inUse, contents, stagedHead, stagedBytes};
+ghost use Rattle.storage.specs.Halves.{in_use, contents, staged_head, staged_bytes};
 ghost use Rattle.storage.specs.Logs.{head, put_at};
 
 use super::{CAPACITY, HEAD, Half};
@@ -38,8 +38,8 @@ impl Half {
         requires known { number ≤ 6 }
         requires fits { length bytes.now ≤ 3320 }
         requires within { self.old.used + 4 + length bytes.now ≤ 26592 }
-        ensures kept { (inUse self.new ≡ inUse self.old) × ((contents self.new ≡ contents self.old) × (self.new.used ≡ self.old.used)) }
-        ensures after { (stagedHead self.new ≡ head number (length bytes.now)) × (stagedBytes self.new (length bytes.now) ≡ bytes.now) }
+        ensures kept { (in_use self.new ≡ in_use self.old) × ((contents self.new ≡ contents self.old) × (self.new.used ≡ self.old.used)) }
+        ensures after { (staged_head self.new ≡ head number (length bytes.now)) × (staged_bytes self.new (length bytes.now) ≡ bytes.now) }
     {
         let at = self.used;
         let len = bytes.len();
@@ -54,8 +54,8 @@ impl Half {
         requires some { 1 ≤ len }
         requires fits { len ≤ 3320 }
         requires within { self.old.used + 4 + len ≤ 26592 }
-        requires staged { stagedHead self.old ≡ head number len }
-        ensures after { contents self.new ≡ slice_set (contents self.old) number (stagedBytes self.old len) }
+        requires staged { staged_head self.old ≡ head number len }
+        ensures after { contents self.new ≡ slice_set (contents self.old) number (staged_bytes self.old len) }
         ensures used { self.new.used ≡ self.old.used + 4 + len }
     {
         let at = self.used + HEAD;

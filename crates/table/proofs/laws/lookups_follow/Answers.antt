@@ -5,4 +5,4 @@ use Rattle.table.proofs.Sweeps.{find-swept}
 use Rattle.table.proofs.laws.lookups_follow.Goals as goal
 
 pub returns : goal.returns
-returns c = record { lookups = record { change-puts = λ es u x h k. sym (put-found es u x h k); put-finds = find-put; merge-finds = find-merge; sweep-finds = find-swept } }
+returns c = record { lookups = record { change_puts = λ es u x h k. sym (put-found es u x h k); put_finds = find-put; merge_finds = find-merge; sweep_finds = find-swept } }

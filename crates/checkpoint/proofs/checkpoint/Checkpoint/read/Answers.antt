@@ -1,6 +1,6 @@
 use Rattle.gossip.specs.Contents.{contents}
 use Rattle.gossip.specs.Numbers.{Bytes}
-use Rattle.checkpoint.proofs.Reading.{message-refused, message-read, spelled, of-kind}
+use Rattle.checkpoint.proofs.Reading.{message_refused, message_read, spelled, of_kind_lem}
 use Rattle.checkpoint.proofs.checkpoint.Checkpoint.read.Goals as goal
 
 pub returns-in-Ok : goal.returns-in-Ok
@@ -8,13 +8,13 @@ returns-in-Ok g c =
     let k = g.L.Lattice.kind in
     let b = c.args.bytes.now in
     let bytes : Bytes b = λ i. (c.type-inv.bytes i).fits in
-    let a = message-read k b c.front-len.ensures c.split-at.ensures.front c.split-at.ensures.back (contents c.in-Ok.message) _ c.in-Ok.ensures.answer c.with-rows.ensures in
-    record { answer = a; spelling = spelled k b bytes c.with-rows.result a; kind = of-kind k b bytes c.with-rows.result a }
+    let a = message_read k b c.front-len.ensures c.split-at.ensures.front c.split-at.ensures.back (contents c.in-Ok.message) _ c.in-Ok.ensures.answer c.with-rows.ensures in
+    record { answer = a; spelling = spelled k b bytes c.with-rows.result a; kind = of_kind_lem k b bytes c.with-rows.result a }
 
 pub returns-in-Err : goal.returns-in-Err
 returns-in-Err g c =
     record {
-      answer = message-refused g.L.Lattice.kind c.args.bytes.now c.front-len.ensures c.split-at.ensures.front c.split-at.ensures.back _ c.in-Err.ensures.answer;
+      answer = message_refused g.L.Lattice.kind c.args.bytes.now c.front-len.ensures c.split-at.ensures.front c.split-at.ensures.back _ c.in-Err.ensures.answer;
       spelling = tt;
       kind = tt;
     }

@@ -3,7 +3,7 @@ use Rattle.std.proofs.lemmas.List.{length-take-le, take_more_set}
 use Rattle.std.proofs.lemmas.Bool.{and_from, lt-ltb}
 use Rattle.gossip.specs.Contents.{contents, pushed, after}
 use Rattle.gossip.specs.Messages.{sound}
-use Rattle.gossip.proofs.Sound.{sound-push, parts, head-parts}
+use Rattle.gossip.proofs.Sound.{sound_push, parts, head_to_parts}
 use Rattle.gossip.proofs.message.Gossip.push.Goals as goal
 
 pub invariant-of-self : goal.invariant-of-self
@@ -13,11 +13,11 @@ invariant-of-self c =
     let es = take g.count g.entries in
     let l : length (take g.count g.entries) ≡ g.count = length-take-le g.count g.entries (omega arith) in
     let m = take_more_set g.entries g.count e (omega arith) in
-    let w = (head-parts g.head (parts record { head = g.head; entries = es } g.sound).head).wide in
+    let w = (head_to_parts g.head (parts record { head = g.head; entries = es } g.sound).head).wide in
     let b : c.args.entry.seat < 2 ^ 64 = omega arith in
     let a = c.if-not-is-allowed.ensures in
     let r = c.if-not-rises-to.ensures in
-    let s = sound-push g.head es e g.sound (omega arith) (sym r.answer) (and_from _ _ (lt-ltb _ _ b) (and_from _ _ (a.wide refl w) (sym a.answer))) in
+    let s = sound_push g.head es e g.sound (omega arith) (sym r.answer) (and_from _ _ (lt-ltb _ _ b) (and_from _ _ (a.wide refl w) (sym a.answer))) in
     (omega arith, (length-set g.entries g.count e ∙ g.room, (ap (λ xs. sound record { head = g.head; entries = xs }) m ∙ s, tt)))
 
 pub returns : goal.returns

@@ -1,10 +1,10 @@
 use Rattle.std.proofs.Common.{◌≡◌, ◌≤◌, length, sym, ap, ◌∙◌, arith, length-take-le, rules}
 use Rattle.gossip.specs.Contents.{contents}
-use Rattle.gossip.specs.Format.{decode, encode, messageLength}
+use Rattle.gossip.specs.Format.{decode, encode, message_length}
 use Rattle.gossip.specs.Numbers.{put_at}
-use Rattle.gossip.proofs.FormatTheorems.{reads-back}
+use Rattle.gossip.proofs.FormatTheorems.{reads_back}
 use Rattle.gossip.proofs.Puts.{take_put}
-use Rattle.gossip.proofs.Written.{message-fits, message-written, message-long}
+use Rattle.gossip.proofs.Written.{message_fits, message_written, message_long}
 use Rattle.gossip.proofs.message.Gossip.spell.Goals as goal
 
 pub put-entries-requires : goal.put-entries-requires
@@ -12,7 +12,7 @@ put-entries-requires g c =
     let few : c.args.self.now.head.n ≤ 7 = search rules in
     let count : length c.entries.result.now ≡ c.args.self.now.count
     = ap length c.entries.ensures.answer ∙ length-take-le _ _ (omega arith) in
-    let fits = message-fits c.args.self.now.head.n (length c.entries.result.now) few (omega arith) in
+    let fits = message_fits c.args.self.now.head.n (length c.entries.result.now) few (omega arith) in
     record { few = few; within = omega arith }
 
 pub returns : goal.returns
@@ -22,12 +22,12 @@ returns g c =
     let few : c.args.self.now.head.n ≤ 7 = search rules in
     let count : length m.entries ≡ c.args.self.now.count = length-take-le _ _ (omega arith) in
     let entries = c.entries.ensures.answer in
-    let long : length (encode k m) ≡ messageLength m.head.n c.args.self.now.count = message-long k m c.put-timestamp.ensures.long (cc) ∙ ap (messageLength m.head.n) count in
+    let long : length (encode k m) ≡ message_length m.head.n c.args.self.now.count = message_long k m c.put-timestamp.ensures.long (cc) ∙ ap (message_length m.head.n) count in
     let written : c.put-entries.new.out ≡ put_at 0 (encode k m) c.args.out.now
-    = message-written k m _ _ _ _ c.put-timestamp.ensures.long (omega arith) (cc) c.put-timestamp.ensures.written (cc) in
+    = message_written k m _ _ _ _ c.put-timestamp.ensures.long (omega arith) (cc) c.put-timestamp.ensures.written (cc) in
     record {
       answer = sym long;
       buffer = written;
-      back = λ kind. ap (decode k) (take_put _ (encode k m) _ _ long written) ∙ reads-back k g.met.L.Lattice.lawful m c.entries.ensures.sound kind;
-      fits = message-fits c.args.self.now.head.n c.args.self.now.count few (omega arith);
+      back = λ kind. ap (decode k) (take_put _ (encode k m) _ _ long written) ∙ reads_back k g.met.L.Lattice.lawful m c.entries.ensures.sound kind;
+      fits = message_fits c.args.self.now.head.n c.args.self.now.count few (omega arith);
     }

@@ -1,7 +1,7 @@
 use Rattle.std.proofs.Common.{◌≡◌, true, sym, ap, ◌∙◌, subst}
-use Rattle.gossip.specs.Messages.{allowed, wideState}
+use Rattle.gossip.specs.Messages.{allowed, wide_state}
 use Rattle.gossip.specs.declared.entry.State.{State}
-use Rattle.gossip.proofs.Sound.{wide-under}
+use Rattle.gossip.proofs.Sound.{wide_under}
 use Rattle.gossip.proofs.message.building.is_allowed.Goals as goal
 
 pub returns-in-Tombstone : goal.returns-in-Tombstone
@@ -10,5 +10,5 @@ returns-in-Tombstone c =
     let e = c.is-covered.ensures.answer in
     record {
       answer = e ∙ ap (allowed top) (sym c.in-Tombstone.is);
-      wide = λ r w. subst (λ (s : State). wideState s ≡ true) (sym c.in-Tombstone.is) (wide-under c.in-Tombstone.time c.in-Tombstone.timestamp top c.is-covered.ensures.alike (sym e ∙ r) w);
+      wide = λ r w. subst (λ (s : State). wide_state s ≡ true) (sym c.in-Tombstone.is) (wide_under c.in-Tombstone.time c.in-Tombstone.timestamp top c.is-covered.ensures.alike (sym e ∙ r) w);
     }

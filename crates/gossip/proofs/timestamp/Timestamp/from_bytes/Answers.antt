@@ -1,7 +1,7 @@
 use Rattle.std.proofs.Common.{◌≡◌, ◌+◌, ◌-◌, ◌*◌, [], ◌∷◌, ◌++◌, replicate, sym, refl, ap, ◌∙◌, mul_comm, arith}
 use Rattle.gossip.specs.Numbers.{counters, field, pieces}
-use Rattle.gossip.proofs.NumberLaws.{counters-more, length-counters}
-use Rattle.gossip.proofs.TimestampSteps.{counted-more}
+use Rattle.gossip.proofs.NumberLaws.{counters_more, length-counters}
+use Rattle.gossip.proofs.TimestampSteps.{counted_more}
 use Rattle.gossip.proofs.timestamp.Timestamp.from_bytes.Goals as goal
 
 pub loop-i-init : goal.loop-i-init
@@ -13,8 +13,8 @@ loop-i-preserved c =
     let i = c.loop-i.i in
     let b = c.args.src.now in
     let v : c.u32-at.result ≡ field (i * 4) 4 b = c.u32-at.ensures ∙ ap (λ k. field k 4 b) (mul_comm 4 i) in
-    counted-more 0 (counters i b) c.loop-i.parts i c.u32-at.result (omega arith) (length-counters i b) c.loop-i.invariant
-    ∙ ap (λ x. (counters i b ++ x ∷ []) ++ replicate (7 - (i + 1)) 0) v ∙ ap (λ xs. xs ++ replicate (7 - (i + 1)) 0) (sym (counters-more i b))
+    counted_more 0 (counters i b) c.loop-i.parts i c.u32-at.result (omega arith) (length-counters i b) c.loop-i.invariant
+    ∙ ap (λ x. (counters i b ++ x ∷ []) ++ replicate (7 - (i + 1)) 0) v ∙ ap (λ xs. xs ++ replicate (7 - (i + 1)) 0) (sym (counters_more i b))
 
 pub returns : goal.returns
 returns c =

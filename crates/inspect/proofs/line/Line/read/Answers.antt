@@ -1,20 +1,20 @@
 use Rattle.std.proofs.Common.{sym, ap, ◌∙◌, rules}
 use Rattle.std.proofs.lemmas.Result.{err_from_is_err_and, IfOk-from_err}
 use Rattle.gossip.specs.Numbers.{put_at}
-use Rattle.inspect.specs.Lines.{asMessage, text_of, textBytes, Roomy}
+use Rattle.inspect.specs.Lines.{as_message, text_of, text_bytes, Roomy}
 use Rattle.inspect.proofs.Kept.{decisive}
-use Rattle.inspect.proofs.Cases.{is-blank, is-note, is-message}
+use Rattle.inspect.proofs.Cases.{is_blank, is_note, is_message}
 use Rattle.inspect.proofs.line.Line.read.Goals as goal
 
 pub returns-in-err-read-hex : goal.returns-in-err-read-hex
 returns-in-err-read-hex c =
     let e = c.without-return-text.ensures in
-    let i = is-message c.without-return-text.result.now (search rules) (λ h. search rules) in
+    let i = is_message c.without-return-text.result.now (search rules) (λ h. search rules) in
     let n = c.in-err-read-hex.ensures.answer in
     let p = err_from_is_err_and c.from-residual.result c.from-residual.ensures.1 in
     record {
-      answer = rw (p.1, p.2) (ap asMessage n ∙ sym i.0 ∙ ap text_of e);
-      buffer = c.read-hex.ensures.buffer ∙ ap (λ b. put_at 0 b c.args.buffer.now) (sym i.1 ∙ ap textBytes e);
+      answer = rw (p.1, p.2) (ap as_message n ∙ sym i.0 ∙ ap text_of e);
+      buffer = c.read-hex.ensures.buffer ∙ ap (λ b. put_at 0 b c.args.buffer.now) (sym i.1 ∙ ap text_bytes e);
       room = IfOk-from_err c.from-residual.result Roomy c.from-residual.ensures.0;
       cut = decisive c.args.text.now;
     }
@@ -22,10 +22,10 @@ returns-in-err-read-hex c =
 pub returns-in-empty : goal.returns-in-empty
 returns-in-empty c =
     let e = c.without-return-text.ensures in
-    let i = is-blank c.without-return-text.result.now (search rules) in
+    let i = is_blank c.without-return-text.result.now (search rules) in
     record {
       answer = sym i.0 ∙ ap text_of e;
-      buffer = ap (λ b. put_at 0 b c.args.buffer.now) (sym i.1 ∙ ap textBytes e);
+      buffer = ap (λ b. put_at 0 b c.args.buffer.now) (sym i.1 ∙ ap text_bytes e);
       room = tt;
       cut = decisive c.args.text.now;
     }
@@ -33,10 +33,10 @@ returns-in-empty c =
 pub returns-in-35 : goal.returns-in-35
 returns-in-35 c =
     let e = c.without-return-text.ensures in
-    let i = is-note c.without-return-text.result.now (search rules) c.in-35.is in
+    let i = is_note c.without-return-text.result.now (search rules) c.in-35.is in
     record {
       answer = sym i.0 ∙ ap text_of e;
-      buffer = ap (λ b. put_at 0 b c.args.buffer.now) (sym i.1 ∙ ap textBytes e);
+      buffer = ap (λ b. put_at 0 b c.args.buffer.now) (sym i.1 ∙ ap text_bytes e);
       room = tt;
       cut = decisive c.args.text.now;
     }
@@ -44,11 +44,11 @@ returns-in-35 c =
 pub returns-in-ok-read-hex : goal.returns-in-ok-read-hex
 returns-in-ok-read-hex c =
     let e = c.without-return-text.ensures in
-    let i = is-message c.without-return-text.result.now (search rules) (λ h. search rules) in
+    let i = is_message c.without-return-text.result.now (search rules) (λ h. search rules) in
     let n = c.in-ok-read-hex.ensures.answer in
     record {
-      answer = ap asMessage n ∙ sym i.0 ∙ ap text_of e;
-      buffer = c.read-hex.ensures.buffer ∙ ap (λ b. put_at 0 b c.args.buffer.now) (sym i.1 ∙ ap textBytes e);
+      answer = ap as_message n ∙ sym i.0 ∙ ap text_of e;
+      buffer = c.read-hex.ensures.buffer ∙ ap (λ b. put_at 0 b c.args.buffer.now) (sym i.1 ∙ ap text_bytes e);
       room = c.in-ok-read-hex.ensures.room;
       cut = decisive c.args.text.now;
     }

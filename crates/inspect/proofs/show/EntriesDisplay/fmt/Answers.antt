@@ -1,21 +1,21 @@
 use Rattle.std.proofs.Common.{◌++◌, codes, ap, take_all}
 use Rattle.std.proofs.Output.{has_written_of_eq}
 use Rattle.gossip.specs.declared.entry.State.TheVariants.{Value}
-use Rattle.inspect.specs.Texts.{entryText, entriesText}
-use Rattle.inspect.proofs.Printed.{prints-none, prints-more}
+use Rattle.inspect.specs.Texts.{entry_text, entries_text}
+use Rattle.inspect.proofs.Printed.{prints_none, prints_more}
 use Rattle.inspect.proofs.show.EntriesDisplay.fmt.Goals as goal
 
 pub loop-entry-init : goal.loop-entry-init
-loop-entry-init g c = prints-none g.W.Write.write_str_gives (λ e. codes "\n" ++ entryText c.args.self.now.n e) c.args.f.now
+loop-entry-init g c = prints_none g.W.Write.write_str_gives (λ e. codes "\n" ++ entry_text c.args.self.now.n e) c.args.f.now
 
 pub loop-entry-preserved : goal.loop-entry-preserved
 loop-entry-preserved g c =
-    prints-more g.W.Write.write_str_gives (λ e. codes "\n" ++ entryText c.args.self.now.n e) c.args.f.now
+    prints_more g.W.Write.write_str_gives (λ e. codes "\n" ++ entry_text c.args.self.now.n e) c.args.f.now
     c.args.self.now.list.now c.loop-entry.entry-index (record { seat = 0; state = Value 0 }) c.loop-entry.f _
     c.loop-entry-test.true c.loop-entry.invariant c.in-ok-write.ensures.shows
 
 pub returns-clause-writes : goal.returns-clause-writes
 returns-clause-writes g c plain ok =
     has_written_of_eq g.W.Write.write_str_gives c.args.f.now _ _ c.loop-entry.f
-    (ap (entriesText c.args.self.now.n) (take_all c.loop-entry.entry-index c.args.self.now.list.now c.loop-entry-test.false))
+    (ap (entries_text c.args.self.now.n) (take_all c.loop-entry.entry-index c.args.self.now.list.now c.loop-entry-test.false))
     (c.loop-entry.invariant plain)

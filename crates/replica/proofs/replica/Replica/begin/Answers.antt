@@ -1,10 +1,10 @@
 use Rattle.std.proofs.Common.{◌≡◌, ◌^◌, ◌<◌, ◌&&◌, leb, replicate, sym, refl, ap, ◌∙◌, rules}
 use Rattle.std.proofs.lemmas.Bool.{and_parts, leb-true, lt-ltb}
-use Rattle.gossip.proofs.Sound.{origin-whole}
+use Rattle.gossip.proofs.Sound.{origin_whole}
 use Rattle.gossip.proofs.Unless.{passed}
 use Rattle.checkpoint.specs.Checkpoints.{zero}
 use Rattle.replica.specs.Contents.{memory}
-use Rattle.replica.specs.Memories.{soundMemory}
+use Rattle.replica.specs.Memories.{sound_memory}
 use Rattle.replica.proofs.MemoriesKept.{fresh-sound}
 use Rattle.replica.proofs.Taken.{of_parts, same_memory}
 use Rattle.replica.proofs.replica.Replica.begin.Goals as goal
@@ -17,7 +17,7 @@ invariant-of-self c =
     let some = leb-true 1 p.n size.0 in
     let most = leb-true p.n 7 size.1 in
     let group : p.group < 2 ^ 32 = search rules in
-    (ap (soundMemory p) (same_memory {c = 0} refl z c.clear.ensures.after (ap (replicate 7) z)) ∙ fresh-sound p (origin-whole _ _ some most c.if-membership.false) (lt-ltb _ _ group), tt)
+    (ap (sound_memory p) (same_memory {c = 0} refl z c.clear.ensures.after (ap (replicate 7) z)) ∙ fresh-sound p (origin_whole _ _ some most c.if-membership.false) (lt-ltb _ _ group), tt)
 
 pub returns : goal.returns
 unfolding memory

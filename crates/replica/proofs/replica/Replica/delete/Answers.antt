@@ -1,20 +1,20 @@
 use Rattle.std.proofs.Common.{cond, Some, None, sym, refl, ap, ◌∙◌}
 use Rattle.std.proofs.lemmas.Result.{err_from_is_err_and}
 use Rattle.std.proofs.lemmas.Bool.{and_parts, and_from}
-use Rattle.gossip.specs.Messages.{wideTimestamp}
+use Rattle.gossip.specs.Messages.{wide_timestamp}
 use Rattle.gossip.specs.declared.entry.State.TheVariants.{Tombstone}
 use Rattle.gossip.specs.declared.timestamp.Timestamp.{Timestamp}
-use Rattle.gossip.proofs.TimestampLaws.{under-refl}
+use Rattle.gossip.proofs.TimestampLaws.{under_refl}
 use Rattle.replica.specs.Answers.{set, same}
 use Rattle.replica.specs.Contents.{memory}
 use Rattle.replica.specs.Steps.{raised, stored}
-use Rattle.replica.proofs.Changes.{delete-untimely, delete-late, delete-changes, change-refused, change-set, raise-ok}
-use Rattle.replica.proofs.MemoriesKept.{raised-wide}
+use Rattle.replica.proofs.Changes.{delete_untimely, delete-late, delete-changes, change_refused, change-set, raise_ok}
+use Rattle.replica.proofs.MemoriesKept.{raised_wide}
 use Rattle.replica.proofs.Taken.{refused, took}
 use Rattle.replica.proofs.replica.Replica.delete.Goals as goal
 
 pub returns-then-not-are-times : goal.returns-then-not-are-times
-returns-then-not-are-times c = record { step = λ k. refused _ _ 4 _ (delete-untimely _ _ _ _ _ _ (sym c.if-not-are-times.ensures)) refl refl }
+returns-then-not-are-times c = record { step = λ k. refused _ _ 4 _ (delete_untimely _ _ _ _ _ _ (sym c.if-not-are-times.ensures)) refl refl }
 
 pub returns-then-is-late : goal.returns-then-is-late
 unfolding memory
@@ -41,7 +41,7 @@ returns-in-err-raised c =
     rw (p.1, p.2) (record {
       step = λ k. refused _ _ _ _
           (delete-changes _ _ (memory r) _ _ _ (sym c.if-not-are-times.ensures) (sym c.if-is-late.ensures.answer) (Some x) (ap (λ b. cond b None (Some x)) c.if-is-deleted.ensures.answer) _
-          (change-refused r.membership (memory r) c.args.reading c.args.seat x _ (c.in-err-raised.ensures.answer x)))
+          (change_refused r.membership (memory r) c.args.reading c.args.seat x _ (c.in-err-raised.ensures.answer x)))
           refl refl;
     })
 
@@ -53,12 +53,12 @@ store-requires c =
     let times = and_parts _ _ (sym c.if-not-are-times.ensures) in
     let x = Tombstone c.args.time c.in-ok-raised.raised in
     let e = sym (c.in-ok-raised.ensures.answer x) in
-    let a = raise-ok r.membership (memory r) c.args.reading c.args.seat x c.in-ok-raised.raised e in
+    let a = raise_ok r.membership (memory r) c.args.reading c.args.seat x c.in-ok-raised.raised e in
     record {
       raised = e;
       reading = times.1;
-      wide = ap wideTimestamp (sym a.2) ∙ raised-wide r.membership (memory r) r.sound a.1;
-      allowed = and_from _ _ times.0 (under-refl c.in-ok-raised.raised.parts);
+      wide = ap wide_timestamp (sym a.2) ∙ raised_wide r.membership (memory r) r.sound a.1;
+      allowed = and_from _ _ times.0 (under_refl c.in-ok-raised.raised.parts);
     }
 
 pub returns : goal.returns
@@ -68,7 +68,7 @@ returns c =
     let s = c.in-ok-raised.raised in
     let t = raised r.membership (memory r) in
     let x = Tombstone c.args.time t in
-    let a = raise-ok r.membership (memory r) c.args.reading c.args.seat x s (sym (c.in-ok-raised.ensures.answer x)) in
+    let a = raise_ok r.membership (memory r) c.args.reading c.args.seat x s (sym (c.in-ok-raised.ensures.answer x)) in
     record {
       step = λ k. took _ _ (set s) (stored r.membership (memory r) c.args.reading c.args.seat x s) _
           (delete-changes _ _ (memory r) _ _ _ (sym c.if-not-are-times.ensures) (sym c.if-is-late.ensures.answer) (Some x) (ap (λ b. cond b None (Some x)) c.if-is-deleted.ensures.answer) _

@@ -6,12 +6,12 @@ use Rattle.table.specs.Entries.{find}
 use Rattle.replica.specs.Answers.{set, same}
 use Rattle.replica.specs.Contents.{memory}
 use Rattle.replica.specs.Steps.{stored}
-use Rattle.replica.proofs.Changes.{enter-untimely, enter-foreign, enter-late, enter-changes, change-refused, change-set, entered-plain}
+use Rattle.replica.proofs.Changes.{enter_untimely, enter-foreign, enter-late, enter-changes, change_refused, change-set, entered_plain}
 use Rattle.replica.proofs.Taken.{refused, took}
 use Rattle.replica.proofs.replica.Replica.enter.Goals as goal
 
 pub returns-then-not-are-times : goal.returns-then-not-are-times
-returns-then-not-are-times g c = record { step = refused _ _ 4 _ (enter-untimely _ _ _ _ _ _ _ (sym c.if-not-are-times.ensures)) refl refl }
+returns-then-not-are-times g c = record { step = refused _ _ 4 _ (enter_untimely _ _ _ _ _ _ _ (sym c.if-not-are-times.ensures)) refl refl }
 
 pub returns-then-not-is-value : goal.returns-then-not-is-value
 returns-then-not-is-value g c =
@@ -44,14 +44,14 @@ returns-in-err-raised g c =
     rw (p.1, p.2) (record {
       step = refused _ _ _ _
           (enter-changes _ _ (memory r) _ _ _ _ (sym c.if-not-are-times.ensures) (sym c.if-not-is-value.ensures.answer) (sym c.if-is-late.ensures.answer) (Some x) c.in-Some.ensures.answer _
-          (change-refused r.membership (memory r) c.args.reading c.args.seat x _ (c.in-err-raised.ensures.answer x)))
+          (change_refused r.membership (memory r) c.args.reading c.args.seat x _ (c.in-err-raised.ensures.answer x)))
           refl refl;
     })
 
 pub store-requires : goal.store-requires
 unfolding memory
 store-requires g c =
-    let plain = entered-plain g.L.Lattice.kind c.args.value (find (contents c.args.self.now.table) c.args.seat) c.in-Some.state c.in-ok-raised.raised c.in-Some.ensures.answer in
+    let plain = entered_plain g.L.Lattice.kind c.args.value (find (contents c.args.self.now.table) c.args.seat) c.in-Some.state c.in-ok-raised.raised c.in-Some.ensures.answer in
     record {
       raised = sym (c.in-ok-raised.ensures.answer c.in-Some.state);
       reading = (and_parts _ _ (sym c.if-not-are-times.ensures)).1;

@@ -7,11 +7,11 @@ use Rattle.gossip.specs.declared.head.Head.{Head}
 use Rattle.gossip.specs.declared.timestamp.Timestamp.{Timestamp}
 use Rattle.replica.specs.Answers.{old, new}
 use Rattle.replica.specs.Contents.{memory}
-use Rattle.replica.specs.Memories.{Memory, soundMemory}
+use Rattle.replica.specs.Memories.{Memory, sound_memory}
 use Rattle.replica.specs.Steps.{learnt}
-use Rattle.replica.proofs.Hearing.{head-ours, learnt_is, hear-old, hear-full, hear-new}
+use Rattle.replica.proofs.Hearing.{head_ours, learnt_is, hear-old, hear-full, hear-new}
 use Rattle.replica.proofs.MemoriesKept.{learnt-sound}
-use Rattle.replica.proofs.Room.{ok-fits, refused-fits}
+use Rattle.replica.proofs.Room.{ok_fits, refused_fits}
 use Rattle.replica.proofs.Taken.{same_memory, refused, took}
 use Rattle.replica.proofs.replica.Replica.hear.Goals as goal
 
@@ -29,7 +29,7 @@ returns-then-under g c =
     let t = said c.args.message.now in
     let h = c.head-head.result in
     let e = c.head-head.ensures.answer in
-    let ours = head-ours k r.membership m t c.args.reading h e c.if-head-self.false c.if-head-self-2.false in
+    let ours = head_ours k r.membership m t c.args.reading h e c.if-head-self.false c.if-head-self-2.false in
     record { step = took _ _ old m _ (hear-old k r.membership m t c.args.reading ours (compared m t h c.compare-under.result true e c.compare-under.ensures.answer c.if-under.true)) refl refl }
 
 pub returns-then-is-err : goal.returns-then-is-err
@@ -41,11 +41,11 @@ returns-then-is-err g c =
     let t = said c.args.message.now in
     let h = c.head-head.result in
     let e = c.head-head.ensures.answer in
-    let ours = head-ours k r.membership m t c.args.reading h e c.if-head-self.false c.if-head-self-2.false in
+    let ours = head_ours k r.membership m t c.args.reading h e c.if-head-self.false c.if-head-self-2.false in
     let news = compared m t h c.compare-under.result false e c.compare-under.ensures.answer c.if-under.false in
     let no = c.if-is-err.ensures.negation in
     record {
-      step = refused _ _ 6 _ (hear-full k r.membership m t c.args.reading ours news (refused-fits c.merge-2.result _ c.merge-2.ensures.answer no))
+      step = refused _ _ 6 _ (hear-full k r.membership m t c.args.reading ours news (refused_fits c.merge-2.result _ c.merge-2.ensures.answer no))
           (same_memory refl refl (c.merge-2.ensures.after ∙ cond-false _ _ _ no) refl) refl;
     }
 
@@ -58,10 +58,10 @@ invariant-of-self-2 g c =
     let t = said c.args.message.now in
     let h = c.head-head.result in
     let e = c.head-head.ensures.answer in
-    let ours = head-ours k r.membership m t c.args.reading h e c.if-head-self.false c.if-head-self-2.false in
+    let ours = head_ours k r.membership m t c.args.reading h e c.if-head-self.false c.if-head-self-2.false in
     let ok = c.if-is-err.ensures.negation in (
-      ap (soundMemory r.membership) (learnt_is k r.membership m t c.args.reading h c.merge.new.self _ _ _ e c.merge.ensures.after c.max-self.ensures (c.merge-2.ensures.after ∙ cond-true _ _ _ ok) c.rows-with-rows.ensures.answer)
-          ∙ learnt-sound k r.membership m t c.args.reading r.sound c.head-head.ensures.sound ours c.requires (ok-fits c.merge-2.result _ c.merge-2.ensures.answer ok),
+      ap (sound_memory r.membership) (learnt_is k r.membership m t c.args.reading h c.merge.new.self _ _ _ e c.merge.ensures.after c.max-self.ensures (c.merge-2.ensures.after ∙ cond-true _ _ _ ok) c.rows-with-rows.ensures.answer)
+          ∙ learnt-sound k r.membership m t c.args.reading r.sound c.head-head.ensures.sound ours c.requires (ok_fits c.merge-2.result _ c.merge-2.ensures.answer ok),
       tt,
     )
 
@@ -74,7 +74,7 @@ returns g c =
     let t = said c.args.message.now in
     let h = c.head-head.result in
     let e = c.head-head.ensures.answer in
-    let ours = head-ours k r.membership m t c.args.reading h e c.if-head-self.false c.if-head-self-2.false in
+    let ours = head_ours k r.membership m t c.args.reading h e c.if-head-self.false c.if-head-self-2.false in
     let news = compared m t h c.compare-under.result false e c.compare-under.ensures.answer c.if-under.false in
     let ok = c.if-is-err.ensures.negation in
     let same = learnt_is k r.membership m t c.args.reading h c.merge.new.self _ _ _ e c.merge.ensures.after c.max-self.ensures (c.merge-2.ensures.after ∙ cond-true _ _ _ ok) c.rows-with-rows.ensures.answer in
@@ -82,6 +82,6 @@ returns g c =
     let after = learnt k r.membership m t c.args.reading in
     record {
       step = took _ _ (new c.merge.new.self) after _
-          (hear-new k r.membership m t c.args.reading ours news (ok-fits c.merge-2.result _ c.merge-2.ensures.answer ok) ∙ ap (λ (s : Timestamp). Ok (record { answer = new s; memory = after })) (sym now))
+          (hear-new k r.membership m t c.args.reading ours news (ok_fits c.merge-2.result _ c.merge-2.ensures.answer ok) ∙ ap (λ (s : Timestamp). Ok (record { answer = new s; memory = after })) (sym now))
           same refl;
     }

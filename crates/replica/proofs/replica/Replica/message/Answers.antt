@@ -1,9 +1,9 @@
 use Rattle.std.proofs.Common.{◌≡◌, take, ap, ◌∙◌, arith, take_all}
 use Rattle.gossip.specs.Contents.{contents as said}
 use Rattle.table.specs.Contents.{contents}
-use Rattle.table.proofs.Puts.{past-entry}
+use Rattle.table.proofs.Puts.{past_entry}
 use Rattle.replica.specs.Contents.{memory}
-use Rattle.replica.specs.Memories.{messageOf}
+use Rattle.replica.specs.Memories.{message_of}
 use Rattle.replica.proofs.Telling.{told_more}
 use Rattle.replica.proofs.replica.Replica.message.Goals as goal
 use Rattle.replica.proofs.replica.Replica.message.Goals.{in-Some, in-default}
@@ -19,7 +19,7 @@ loop-i-preserved c =
     elim c.match-entry.branch [
       | in-Some w ↦ ap said w.message-is ∙ told_more r.membership (memory r) r.sound c.loop-i.i w.in-Some.entry _ _ w.in-Some.ensures.answer c.loop-i.invariant w.push.ensures.after
       | in-default w ↦ (
-          let past = past-entry (contents r.table) c.loop-i.i w.in-default.ensures.answer in
+          let past = past_entry (contents r.table) c.loop-i.i w.in-default.ensures.answer in
           absurd (omega (arith, c.len-i-end.ensures.answer)))
     ]
 
@@ -28,4 +28,4 @@ unfolding memory
 returns c =
     let r = c.args.self.now in
     let whole : take c.loop-i.i (contents r.table) ≡ contents r.table = take_all c.loop-i.i (contents r.table) (omega (arith, c.len-i-end.ensures.answer)) in
-    record { answer = c.loop-i.invariant ∙ ap (λ es. record { head = (messageOf r.membership (memory r)).head; entries = es }) whole }
+    record { answer = c.loop-i.invariant ∙ ap (λ es. record { head = (message_of r.membership (memory r)).head; entries = es }) whole }

@@ -6,7 +6,7 @@ use Rattle.table.specs.Contents.{contents}
 use Rattle.table.proofs.Merges.{told_entries}
 use Rattle.replica.specs.Contents.{memory}
 use Rattle.replica.specs.Restoring.{restored}
-use Rattle.replica.proofs.Restoring.{restores, loaded, restored-is}
+use Rattle.replica.proofs.Restoring.{restores, loaded, restored_is}
 use Rattle.replica.proofs.replica.Replica.restore.Goals as goal
 
 pub invariant-of-self : goal.invariant-of-self
@@ -18,8 +18,8 @@ invariant-of-self g c =
     let t = said c.message-message.result in
     let h = c.head-head.ensures in
     let es = loaded k.join t.entries (contents c.clear.new.self) (contents c.merge.new.self) c.merge.result c.clear.ensures.after (told_entries t t.entries refl h.sound) c.merge.ensures.answer c.merge.ensures.after in
-    let e = restored-is k p b (saved c.in-ok-checkpoint.checkpoint) t c.head-head.result _ _ c.in-ok-checkpoint.ensures.answer c.message-message.ensures.answer h.answer (sym c.if-not-is-own.ensures.answer) es c.rows-self.ensures.answer in
-    ((restores.reads-sound k p b _ (λ i. (c.type-inv.bytes i).fits) e).0, tt)
+    let e = restored_is k p b (saved c.in-ok-checkpoint.checkpoint) t c.head-head.result _ _ c.in-ok-checkpoint.ensures.answer c.message-message.ensures.answer h.answer (sym c.if-not-is-own.ensures.answer) es c.rows-self.ensures.answer in
+    ((restores.reads_sound k p b _ (λ i. (c.type-inv.bytes i).fits) e).0, tt)
 
 pub returns : goal.returns
 unfolding memory
@@ -31,11 +31,11 @@ returns g c =
     let t = said c.message-message.result in
     let h = c.head-head.ensures in
     let es = loaded k.join t.entries (contents c.clear.new.self) (contents c.merge.new.self) c.merge.result c.clear.ensures.after (told_entries t t.entries refl h.sound) c.merge.ensures.answer c.merge.ensures.after in
-    let e = restored-is k p b (saved c.in-ok-checkpoint.checkpoint) t c.head-head.result _ _ c.in-ok-checkpoint.ensures.answer c.message-message.ensures.answer h.answer (sym c.if-not-is-own.ensures.answer) es c.rows-self.ensures.answer in
+    let e = restored_is k p b (saved c.in-ok-checkpoint.checkpoint) t c.head-head.result _ _ c.in-ok-checkpoint.ensures.answer c.message-message.ensures.answer h.answer (sym c.if-not-is-own.ensures.answer) es c.rows-self.ensures.answer in
     record {
       answer = sym e;
       after = sym (ap (λ r. restored r (memory c.args.self.now)) e);
       kept = refl;
       spelling = restores.sole k p b _ bytes e;
-      kind = (restores.reads-sound k p b _ bytes e).1;
+      kind = (restores.reads_sound k p b _ bytes e).1;
     }

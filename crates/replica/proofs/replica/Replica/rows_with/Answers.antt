@@ -1,6 +1,6 @@
 use Rattle.std.proofs.Common.{arith}
-use Rattle.replica.proofs.Hearing.{rows-heard}
-use Rattle.replica.proofs.MemoriesKept.{memory-parts}
+use Rattle.replica.proofs.Hearing.{rows_heard}
+use Rattle.replica.proofs.MemoriesKept.{memory_parts}
 use Rattle.replica.specs.Contents.{memory}
 use Rattle.replica.proofs.replica.Replica.rows_with.Goals as goal
 
@@ -8,5 +8,5 @@ pub returns : goal.returns
 unfolding memory
 returns c =
     let s = c.args.self.now in
-    let h = memory-parts s.membership (memory s) s.sound in
-    record { answer = rows-heard s.rows c.args.head.now.sender s.membership.replica _ c.args.head.now.timestamp c.merge.new.self c.args.timestamp (omega (arith, h.rows.long, c.requires)) c.merge.ensures.after }
+    let h = memory_parts s.membership (memory s) s.sound in
+    record { answer = rows_heard s.rows c.args.head.now.sender s.membership.replica _ c.args.head.now.timestamp c.merge.new.self c.args.timestamp (omega (arith, h.rows.long, c.requires)) c.merge.ensures.after }

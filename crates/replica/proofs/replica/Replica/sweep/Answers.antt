@@ -6,8 +6,8 @@ use Rattle.table.specs.Entries as entries
 use Rattle.table.specs.Entries.{removable}
 use Rattle.replica.specs.Answers.{swept}
 use Rattle.replica.specs.Contents.{memory}
-use Rattle.replica.specs.Memories.{soundMemory}
-use Rattle.replica.specs.Steps.{step, sweptOf}
+use Rattle.replica.specs.Memories.{sound_memory}
+use Rattle.replica.specs.Steps.{step, swept_of}
 use Rattle.replica.proofs.MemoriesKept.{swept-sound}
 use Rattle.replica.proofs.Taken.{same_memory, refused, took}
 use Rattle.replica.proofs.replica.Replica.sweep.Goals as goal
@@ -25,7 +25,7 @@ invariant-of-self c =
     let grace = c.from.ensures in
     let whole : r.membership.n - 0 ≡ r.membership.n = omega arith in
     let entries = c.sweep-removed.ensures.after ∙ (λ i. entries.swept (grace i) (clock i) (take (whole i) r.rows) (contents r.table)) in
-    (ap (soundMemory r.membership) (same_memory {s = r.timestamp} {rs = r.rows} clock refl entries refl) ∙ swept-sound r.membership (memory r) c.args.reading r.sound (le-leb _ _ c.if-reading-gt-LATEST.false), tt)
+    (ap (sound_memory r.membership) (same_memory {s = r.timestamp} {rs = r.rows} clock refl entries refl) ∙ swept-sound r.membership (memory r) c.args.reading r.sound (le-leb _ _ c.if-reading-gt-LATEST.false), tt)
 
 pub returns : goal.returns
 unfolding memory step
@@ -37,7 +37,7 @@ returns c =
     let entries = c.sweep-removed.ensures.after ∙ (λ i. entries.swept (grace i) (clock i) (take (whole i) r.rows) (contents r.table)) in
     let removed = c.sweep-removed.ensures.answer ∙ (λ i. length (removable (grace i) (clock i) (take (whole i) r.rows) (contents r.table))) in
     record {
-      step = λ k. took _ _ (swept c.sweep-removed.result) (sweptOf r.membership (memory r) c.args.reading) _
-          (passed _ 4 _ _ (le-leb _ _ c.if-reading-gt-LATEST.false) (ap (λ n. Ok (record { answer = swept n; memory = sweptOf r.membership (memory r) c.args.reading })) (sym removed)))
+      step = λ k. took _ _ (swept c.sweep-removed.result) (swept_of r.membership (memory r) c.args.reading) _
+          (passed _ 4 _ _ (le-leb _ _ c.if-reading-gt-LATEST.false) (ap (λ n. Ok (record { answer = swept n; memory = swept_of r.membership (memory r) c.args.reading })) (sym removed)))
           (same_memory clock refl entries refl) refl;
     }

@@ -1,11 +1,11 @@
 use Rattle.std.proofs.Common.{rules}
 use Rattle.table.specs.Contents.{contents}
-use Rattle.table.proofs.Tables.{contents-none}
+use Rattle.table.proofs.Tables.{contents_none}
 use Rattle.table.proofs.table.Table.copy_from.Goals as goal
 
 pub invariant-of-self : goal.invariant-of-self
-invariant-of-self c = let e = contents-none c.clear.new.self c.clear.ensures.after in search rules
+invariant-of-self c = let e = contents_none c.clear.new.self c.clear.ensures.after in search rules
 
 pub returns : goal.returns
 unfolding contents
-returns c = let e = contents-none c.clear.new.self c.clear.ensures.after in search rules
+returns c = let e = contents_none c.clear.new.self c.clear.ensures.after in search rules

@@ -1,7 +1,7 @@
 use Rattle.std.proofs.Common.{◌<◌, length, vec_items, arith}
 use Rattle.table.specs.Contents.{contents}
 use Rattle.table.proofs.Columns.{paired_at}
-use Rattle.table.proofs.Puts.{entry-there, entry_past}
+use Rattle.table.proofs.Puts.{entry_there, entry_past}
 use Rattle.table.proofs.Tables.{level, length-contents}
 use Rattle.table.proofs.table.Table.entry.Goals as goal
 
@@ -13,4 +13,4 @@ unfolding contents
 returns c =
     let t = c.args.self.now in
     let h : c.args.i < length (vec_items t.seats) = omega (arith, t.seats.ok.0) in
-    record { answer = entry-there (contents t) _ _ (omega (arith, length-contents t)) (paired_at _ _ _ _ _ (level t) h c.index.ensures c.index-2.ensures) }
+    record { answer = entry_there (contents t) _ _ (omega (arith, length-contents t)) (paired_at _ _ _ _ _ (level t) h c.index.ensures c.index-2.ensures) }

@@ -1,7 +1,7 @@
 use Rattle.std.proofs.Common.{◌<◌, ◌≤◌, length, get_or, vec_items, ap, ◌∙◌, rules}
 use Rattle.table.specs.Columns.{spot}
 use Rattle.table.specs.Contents.{contents}
-use Rattle.table.proofs.Columns.{found_at, none-at}
+use Rattle.table.proofs.Columns.{found_at, none_at}
 use Rattle.table.proofs.Tables.{level}
 use Rattle.table.proofs.table.Table.find.Goals as goal
 
@@ -10,7 +10,7 @@ unfolding contents
 returns-then-i-len c =
     let t = c.args.self.now in
     let h : length (vec_items t.states) ≤ spot (vec_items t.seats) c.args.seat = search rules in
-    record { answer = none-at _ _ _ (level t) h }
+    record { answer = none_at _ _ _ (level t) h }
 
 pub returns : goal.returns
 unfolding contents

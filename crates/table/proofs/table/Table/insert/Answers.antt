@@ -5,27 +5,27 @@ use Rattle.gossip.specs.Messages.{rises}
 use Rattle.table.specs.Columns.{place}
 use Rattle.table.specs.Contents.{contents}
 use Rattle.table.specs.Entries.{put}
-use Rattle.table.proofs.Columns.{place-le, put-at, rises-inserted}
-use Rattle.table.proofs.Puts.{length-put-new}
+use Rattle.table.proofs.Columns.{place_le, put-at, rises_inserted}
+use Rattle.table.proofs.Puts.{length-put_new}
 use Rattle.table.proofs.Room.{accepted, refused}
-use Rattle.table.proofs.Tables.{level, length-contents, contents-rise}
+use Rattle.table.proofs.Tables.{level, length-contents, contents_rise}
 use Rattle.table.proofs.table.Table.insert.Goals as goal
 
 pub returns-then-len-ge-ENTRIES : goal.returns-then-len-ge-ENTRIES
 returns-then-len-ge-ENTRIES c =
     let t = c.args.self.now in
-    let n = length-put-new (contents t) c.args.seat c.args.state (contents-rise t) c.requires in
+    let n = length-put_new (contents t) c.args.seat c.args.state (contents_rise t) c.requires in
     record { answer = refused (put (contents t) c.args.seat c.args.state) (omega (arith, length-contents t)); after = refl }
 
 pub insert-requires : goal.insert-requires
 insert-requires c =
     let t = c.args.self.now in
-    omega (arith, place-le (vec_items t.seats) c.args.seat, t.seats.ok.0)
+    omega (arith, place_le (vec_items t.seats) c.args.seat, t.seats.ok.0)
 
 pub insert-requires-2 : goal.insert-requires-2
 insert-requires-2 c =
     let t = c.args.self.now in
-    omega (arith, place-le (vec_items t.seats) c.args.seat, t.seats.ok.0, t.few.1)
+    omega (arith, place_le (vec_items t.seats) c.args.seat, t.seats.ok.0, t.few.1)
 
 -- there is room for one more, so that neither insertion fails
 pub invariant-of-self : goal.invariant-of-self
@@ -41,7 +41,7 @@ invariant-of-self c =
       (
         (omega arith, omega (arith, t.few.1)),
         (
-          ap rises us ∙ ap (λ i. rises (insert (vec_items t.seats) i c.args.seat)) c.place-i.ensures.answer ∙ rises-inserted _ _ _ c.args.state (level t) c.requires t.rising,
+          ap rises us ∙ ap (λ i. rises (insert (vec_items t.seats) i c.args.seat)) c.place-i.ensures.answer ∙ rises_inserted _ _ _ c.args.state (level t) c.requires t.rising,
           tt,
         ),
       ),
@@ -56,7 +56,7 @@ returns c =
     let us = c.insert.ensures.items ∙ cond-true _ _ _ k in
     let xs = c.insert-2.ensures.items ∙ cond-true _ _ _ m in
     let at : c.place-i.result ≡ place (vec_items t.seats) c.args.seat = c.place-i.ensures.answer in
-    let n = length-put-new (contents t) c.args.seat c.args.state (contents-rise t) c.requires in
+    let n = length-put_new (contents t) c.args.seat c.args.state (contents_rise t) c.requires in
     record {
       answer = accepted (put (contents t) c.args.seat c.args.state) (omega (arith, length-contents t));
       after = simp (us, xs, at) (put-at _ _ _ c.args.state (level t) c.requires);

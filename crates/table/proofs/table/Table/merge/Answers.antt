@@ -7,21 +7,21 @@ use Rattle.gossip.specs.declared.message.Gossip.{Gossip}
 use Rattle.table.specs.Contents.{contents}
 use Rattle.table.specs.Entries.{merge, fresh}
 use Rattle.table.specs.declared.table.Table.{Table}
-use Rattle.table.proofs.Merges.{fresh-le, length-merge, told_entries, merge-more, merge-all, absorbed-fits}
+use Rattle.table.proofs.Merges.{fresh_le, length-merge, told_entries, merge_more, merge_all, absorbed-fits}
 use Rattle.table.proofs.Room.{accepted, refused, done}
-use Rattle.table.proofs.Tables.{contents-rise, contents-few}
+use Rattle.table.proofs.Tables.{contents_rise, contents_few}
 use Rattle.table.proofs.table.Table.merge.Goals as goal
 
 -- how many entries a table has with those of a message
 size : (join : ℕ → ℕ → ℕ) (t : Table) (m : Gossip) (es : List Entry) → es ≡ (said m).entries → sound (said m) ≡ true → length (merge join (contents t) es) ≡ length (contents t) + fresh (contents t) es
-size join t m es e s = length-merge join (contents t) es (contents-rise t) (told_entries (said m) es e s).0
+size join t m es e s = length-merge join (contents t) es (contents_rise t) (told_entries (said m) es e s).0
 
 pub overflow-add-len : goal.overflow-add-len
 overflow-add-len g c =
     let t = c.args.self.now in
     let es = c.entries-entries.result.now in
     let told = told_entries (said c.args.message.now) es c.entries-entries.ensures.answer c.entries-entries.ensures.sound in
-    omega (arith, contents-few t, fresh-le (contents t) es, c.len.ensures.answer, c.fresh.ensures.answer)
+    omega (arith, contents_few t, fresh_le (contents t) es, c.len.ensures.answer, c.fresh.ensures.answer)
 
 pub returns-then-len-fresh-gt-ENTRIES : goal.returns-then-len-fresh-gt-ENTRIES
 returns-then-len-fresh-gt-ENTRIES g c =
@@ -42,8 +42,8 @@ loop-i-preserved g c =
     let es = c.entries-entries.result.now in
     let n = size j c.args.self.now c.args.message.now es c.entries-entries.ensures.answer c.entries-entries.ensures.sound in
     let few : length (merge j (contents s) (drop c.loop-i.i es)) ≤ 64 = omega (arith, n, ap length c.loop-i.invariant, c.len.ensures.answer, c.fresh.ensures.answer) in
-    let ok = done _ _ c.absorb.ensures.answer (absorbed-fits j (contents s) es c.loop-i.i _ (contents-rise s) c.loop-i-test.true few) in
-    merge-more j (contents s) es c.loop-i.i _ _ c.loop-i-test.true (c.absorb.ensures.after ∙ cond-true _ _ _ ok) ∙ c.loop-i.invariant
+    let ok = done _ _ c.absorb.ensures.answer (absorbed-fits j (contents s) es c.loop-i.i _ (contents_rise s) c.loop-i-test.true few) in
+    merge_more j (contents s) es c.loop-i.i _ _ c.loop-i-test.true (c.absorb.ensures.after ∙ cond-true _ _ _ ok) ∙ c.loop-i.invariant
 
 pub returns : goal.returns
 returns g c =
@@ -54,5 +54,5 @@ returns g c =
     let n = size j t c.args.message.now es c.entries-entries.ensures.answer c.entries-entries.ensures.sound in
     record {
       answer = accepted _ (omega (arith, n, ap length e, c.len.ensures.answer, c.fresh.ensures.answer));
-      after = sym (merge-all j (contents c.loop-i.self) es c.loop-i.i c.loop-i-test.false) ∙ c.loop-i.invariant ∙ e;
+      after = sym (merge_all j (contents c.loop-i.self) es c.loop-i.i c.loop-i-test.false) ∙ c.loop-i.invariant ∙ e;
     }

@@ -1,7 +1,7 @@
 use Rattle.std.proofs.Common.{vec_items, ap, ◌∙◌, arith}
 use Rattle.gossip.specs.Messages.{rises}
 use Rattle.table.specs.Contents.{contents}
-use Rattle.table.proofs.Columns.{paired-removed, rises-removed}
+use Rattle.table.proofs.Columns.{paired_removed, rises_removed}
 use Rattle.table.proofs.Tables.{level, length-contents}
 use Rattle.table.proofs.table.Table.remove.Goals as goal
 
@@ -19,7 +19,7 @@ invariant-of-self c =
       (omega (arith, t.room.0, p.capacity), omega (arith, t.room.1, q.capacity)),
       (
         (omega (arith, t.few.0, p.len), omega (arith, t.few.1, p.len, q.len)),
-        (ap rises p.items ∙ rises-removed (vec_items t.seats) c.args.i t.rising, tt),
+        (ap rises p.items ∙ rises_removed (vec_items t.seats) c.args.i t.rising, tt),
       ),
     )
 
@@ -29,4 +29,4 @@ returns c =
     let t = c.args.self.now in
     let us = c.remove.ensures.items in
     let xs = c.remove-2.ensures.items in
-    record { after = simp (us, xs) (paired-removed _ _ _ (level t)) }
+    record { after = simp (us, xs) (paired_removed _ _ _ (level t)) }

@@ -3,23 +3,23 @@ use Rattle.std.proofs.lemmas.List.Edits.{length-remove}
 use Rattle.gossip.specs.declared.entry.Entry.{Entry}
 use Rattle.table.specs.Contents.{contents}
 use Rattle.table.specs.Entries.{swept, expired}
-use Rattle.table.proofs.Puts.{there-entry, past-entry}
-use Rattle.table.proofs.Sweeps.{keep-more, keep-less, keep_all, length-swept}
-use Rattle.table.proofs.Tables.{contents-few}
+use Rattle.table.proofs.Puts.{there_entry, past_entry}
+use Rattle.table.proofs.Sweeps.{keep_more, keep_less, keep_all, length-swept}
+use Rattle.table.proofs.Tables.{contents_few}
 use Rattle.table.proofs.table.Table.sweep.Goals as goal
 
 pub remove-requires : goal.remove-requires
-remove-requires c = (there-entry (contents c.loop-held.self) c.loop-held.i c.in-Some.held c.in-Some.ensures.answer).0
+remove-requires c = (there_entry (contents c.loop-held.self) c.loop-held.i c.in-Some.held c.in-Some.ensures.answer).0
 
 -- the entry at i was there, and one less is left
 less : (c : goal.After-remove) → (c.loop-held.i < length (contents c.loop-held.self)) × (length (contents c.remove.new.self) + 1 ≡ length (contents c.loop-held.self))
 less c =
     let es = contents c.loop-held.self in
-    let p = there-entry es c.loop-held.i c.in-Some.held c.in-Some.ensures.answer in
+    let p = there_entry es c.loop-held.i c.in-Some.held c.in-Some.ensures.answer in
     (p.0, ap (λ l. length l + 1) c.remove.ensures.after ∙ length-remove es c.loop-held.i p.0)
 
 pub overflow-add-n : goal.overflow-add-n
-overflow-add-n c = omega (arith, contents-few c.args.self.now, c.loop-held.invariant.1)
+overflow-add-n c = omega (arith, contents_few c.args.self.now, c.loop-held.invariant.1)
 
 pub loop-held-smaller-then-is-expired : goal.loop-held-smaller-then-is-expired
 loop-held-smaller-then-is-expired c = let l = less c in omega arith
@@ -29,32 +29,32 @@ loop-held-preserved-then-is-expired c =
     let es = contents c.loop-held.self in
     let i = c.loop-held.i in
     let p = λ (e : Entry). not (expired c.args.grace c.args.clock c.args.rows.now e.state) in
-    let h = there-entry es i c.in-Some.held c.in-Some.ensures.answer in
+    let h = there_entry es i c.in-Some.held c.in-Some.ensures.answer in
     let l = less c in (
-      ap (λ l. take i l ++ swept c.args.grace c.args.clock c.args.rows.now (drop i l)) c.remove.ensures.after ∙ keep-less p es i c.in-Some.held h.0 h.1 (ap not (sym c.if-is-expired.ensures.answer)) ∙ c.loop-held.invariant.0,
+      ap (λ l. take i l ++ swept c.args.grace c.args.clock c.args.rows.now (drop i l)) c.remove.ensures.after ∙ keep_less p es i c.in-Some.held h.0 h.1 (ap not (sym c.if-is-expired.ensures.answer)) ∙ c.loop-held.invariant.0,
       omega (arith, c.loop-held.invariant.1),
       omega arith,
     )
 
 pub overflow-add-i : goal.overflow-add-i
-overflow-add-i c = omega (arith, contents-few c.loop-held.self, c.loop-held.invariant.2)
+overflow-add-i c = omega (arith, contents_few c.loop-held.self, c.loop-held.invariant.2)
 
 pub loop-held-smaller : goal.loop-held-smaller
-loop-held-smaller c = let h = there-entry (contents c.loop-held.self) c.loop-held.i c.in-Some.held c.in-Some.ensures.answer in omega arith
+loop-held-smaller c = let h = there_entry (contents c.loop-held.self) c.loop-held.i c.in-Some.held c.in-Some.ensures.answer in omega arith
 
 pub loop-held-preserved : goal.loop-held-preserved
 loop-held-preserved c =
     let es = contents c.loop-held.self in
     let i = c.loop-held.i in
     let p = λ (e : Entry). not (expired c.args.grace c.args.clock c.args.rows.now e.state) in
-    let h = there-entry es i c.in-Some.held c.in-Some.ensures.answer in
-    (keep-more p es i c.in-Some.held h.0 h.1 (ap not (sym c.if-is-expired.ensures.answer)) ∙ c.loop-held.invariant.0, c.loop-held.invariant.1, omega arith)
+    let h = there_entry es i c.in-Some.held c.in-Some.ensures.answer in
+    (keep_more p es i c.in-Some.held h.0 h.1 (ap not (sym c.if-is-expired.ensures.answer)) ∙ c.loop-held.invariant.0, c.loop-held.invariant.1, omega arith)
 
 pub returns : goal.returns
 returns c =
     let es = contents c.loop-held.self in
     let p = λ (e : Entry). not (expired c.args.grace c.args.clock c.args.rows.now e.state) in
-    let h = past-entry es c.loop-held.i c.in-default.ensures.answer in
+    let h = past_entry es c.loop-held.i c.in-default.ensures.answer in
     let a = sym (keep_all p es c.loop-held.i h) ∙ c.loop-held.invariant.0 in
     let n = length-swept c.args.grace c.args.clock c.args.rows.now (contents c.args.self.now) in
     record { answer = omega (arith, ap length a, c.loop-held.invariant.1); after = a }

@@ -1,6 +1,6 @@
 use Rattle.std.proofs.Common.{[], sym, refl, ◌∙◌, arith, length-set}
-use Rattle.storage.proofs.Committing.{committed-index, committed-read}
-use Rattle.storage.specs.Indexes.{inside-grown}
+use Rattle.storage.proofs.Committing.{committed_index, committed_read}
+use Rattle.storage.specs.Indexes.{inside_grown}
 use Rattle.storage.specs.Scans.{is_some}
 use Rattle.storage.proofs.log.half.Half.commit.Goals as goal
 
@@ -10,15 +10,15 @@ invariant-of-self c =
     let k = c.args.number in
     let n = c.args.len in
     let p = c.requires in
-    let found = is_some _ [] _ (committed-read h k n p.known p.some p.fits p.within p.staged) in (
+    let found = is_some _ [] _ (committed_read h k n p.known p.some p.fits p.within p.staged) in (
       h.whole,
       (
         p.within,
         (
           length-set _ _ _ ∙ h.seven,
           (
-            inside-grown h.used _ h.index k _ h.seven h.inside (omega arith) (omega arith) p.fits,
-            (found.0, (found.1 ∙ sym (committed-index h k n p.known p.some p.fits p.within p.staged), tt)),
+            inside_grown h.used _ h.index k _ h.seven h.inside (omega arith) (omega arith) p.fits,
+            (found.0, (found.1 ∙ sym (committed_index h k n p.known p.some p.fits p.within p.staged), tt)),
           ),
         ),
       ),
@@ -27,4 +27,4 @@ invariant-of-self c =
 pub returns : goal.returns
 returns c =
     let p = c.requires in
-    record { after = committed-index c.args.self.now c.args.number c.args.len p.known p.some p.fits p.within p.staged; used = refl }
+    record { after = committed_index c.args.self.now c.args.number c.args.len p.known p.some p.fits p.within p.staged; used = refl }

@@ -1,21 +1,21 @@
 use Rattle.std.proofs.Common.{◌≡◌, ◌+◌, ◌-◌, length, get_or, take, drop, set, sym, ap, ◌∙◌, arith, length-drop}
 use Rattle.storage.specs.Halves.{contents}
-use Rattle.storage.proofs.Replaying.{fits-at, run-stop-at, run-step-at}
-use Rattle.storage.specs.Scans.{read-run, read-long, run, run_end}
+use Rattle.storage.proofs.Replaying.{fits-at, run_stop_at, run-step-at}
+use Rattle.storage.specs.Scans.{read_run, read_long, run, run_end}
 use Rattle.storage.proofs.log.half.Half.replay.Goals as goal
 
 pub returns-then-end-gt-CAPACITY : goal.returns-then-end-gt-CAPACITY
-returns-then-end-gt-CAPACITY c = record { answer = read-long c.args.bytes.now (omega arith) }
+returns-then-end-gt-CAPACITY c = record { answer = read_long c.args.bytes.now (omega arith) }
 
 pub loop-at-init : goal.loop-at-init
 loop-at-init c =
-    let l = read-run c.args.bytes.now (omega arith) in
+    let l = read_run c.args.bytes.now (omega arith) in
     (omega arith, c.clear.ensures.used, ap (run c.args.bytes.now) c.clear.ensures.after ∙ sym l)
 
 pub returns-in-default : goal.returns-in-default
 returns-in-default c =
     let none = sym c.body-len.ensures.answer ∙ c.in-default.is in
-    record { answer = sym c.loop-at.invariant.2 ∙ run-stop-at c.args.bytes.now c.loop-at.at (contents c.loop-at.self) (omega arith) none }
+    record { answer = sym c.loop-at.invariant.2 ∙ run_stop_at c.args.bytes.now c.loop-at.at (contents c.loop-at.self) (omega arith) none }
 
 pub loop-at-preserved : goal.loop-at-preserved
 loop-at-preserved c =

@@ -2,7 +2,7 @@ use Rattle.std.proofs.Common.{◌≡◌, ◌+◌, ◌-◌, length, vec_items, sy
 use borrow.Rule.Slice.PartMut.{put_mid}
 use Rattle.std.proofs.lemmas.List.{with_items_is}
 use Rattle.storage.specs.Logs.{put_at}
-use Rattle.storage.proofs.Staging.{put-mid, length-put-at}
+use Rattle.storage.proofs.Staging.{put_mid-put_at, length-put-at}
 use Rattle.storage.proofs.log.half.writing.write_at.Goals as goal
 
 pub returns : goal.returns
@@ -15,7 +15,7 @@ returns c =
     let value = c.as-mut-slice-all.ensures.value in
     let n : length c.args.bytes.now ≡ c.args.at + length c.args.bytes.now - c.args.at = omega arith in
     let put : put_mid c.args.at (c.args.at + length c.args.bytes.now - c.args.at) c.as-mut-slice-all.result.now c.copy-from-slice.new.self ≡ put_at c.args.at c.args.bytes.now (vec_items c.args.memory.now)
-    = put-mid at (at + length bs - at) o c.copy-from-slice.new.self (ap length copied ∙ n) ∙ ap (λ z. put_at at z o) copied ∙ ap (put_at at bs) value in
+    = put_mid-put_at at (at + length bs - at) o c.copy-from-slice.new.self (ap length copied ∙ n) ∙ ap (λ z. put_at at z o) copied ∙ ap (put_at at bs) value in
     let long = v.ok.0 in
     let w = c.requires.within in
     record {

@@ -1,6 +1,6 @@
 use Rattle.std.proofs.Common.{◌≡◌, ◌-◌, length, take, vec_items, sym, refl, ap, ◌∙◌, arith}
 use Rattle.storage.specs.Slotting.{bytes-at, bytes-length}
-use Rattle.storage.proofs.Stores.{front-is, load-done}
+use Rattle.storage.proofs.Stores.{front_is, load_done}
 use Rattle.storage.proofs.slots.calls.SlotStoreStore.load.Goals as goal
 
 pub returns : goal.returns
@@ -11,7 +11,7 @@ returns c =
     let all : c.index.result.now.len - 0 ≡ c.index.result.now.len = omega arith in
     let copied : c.copy-from-slice.new.self ≡ take s.len s.bytes = c.copy-from-slice.ensures.after ∙ ap (λ m. take m s.bytes) all in
     record {
-      answer = load-done c.args.number (length c.args.buffer.now) _ _ (omega arith) (omega arith) n;
-      buffer = front-is _ _ c.args.buffer.now _ (e ∙ sym copied) (omega (arith, n));
+      answer = load_done c.args.number (length c.args.buffer.now) _ _ (omega arith) (omega arith) n;
+      buffer = front_is _ _ c.args.buffer.now _ (e ∙ sym copied) (omega (arith, n));
       kept = refl;
     }

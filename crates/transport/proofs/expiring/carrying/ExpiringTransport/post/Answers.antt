@@ -2,10 +2,10 @@
 use Rattle.std.proofs.Common.{◌≡◌, ℕ, ◌+◌, ◌-◌, ◌≤◌, List, ◌++◌, length, take, sym, refl, ap, ◌∙◌, subst}
 use native.Mathlib.Numerals.{unary_clauses}
 use Rattle.transport.specs.Parcels.{Posted, parcel}
-use Rattle.transport.specs.Refusals.{postAnswer, taken}
+use Rattle.transport.specs.Refusals.{post_answer, taken}
 use Rattle.transport.specs.Timed.{eight}
-use Rattle.transport.specs.ParcelsLemmas.{posted-none, answer-length, sized-some}
-use Rattle.transport.specs.Timings.{posted-untimed, answer-eight, sized-less}
+use Rattle.transport.specs.ParcelsLemmas.{posted_none, answer_length, sized_some}
+use Rattle.transport.specs.Timings.{posted_untimed, answer_eight, sized_less}
 use Rattle.transport.proofs.expiring.carrying.ExpiringTransport.post.Goals as goal
 
 pub returns-then-not-is-sized : goal.returns-then-not-is-sized
@@ -14,10 +14,10 @@ returns-then-not-is-sized g c =
     let below = c.args.self.now.below in
     let n = length c.args.bytes.now in
     record {
-      answer = answer-length (t.isOpen below c.args.to c.args.reading) (t.longest below - 8) n (sized-less (t.longest below) n (g.met.T.Transport.lawful below).bounded (sym c.if-not-is-sized.ensures.answer));
-      lost = posted-none _;
+      answer = answer_length (t.isOpen below c.args.to c.args.reading) (t.longest below - 8) n (sized_less (t.longest below) n (g.met.T.Transport.lawful below).bounded (sym c.if-not-is-sized.ensures.answer));
+      lost = posted_none _;
       kept = refl;
-      timed = posted-none _;
+      timed = posted_none _;
       grace = refl;
     }
 
@@ -27,13 +27,13 @@ returns g c =
     let below = c.args.self.now.below in
     let bs = c.args.bytes.now in
     let front = eight c.args.reading in
-    let some : 1 ≤ length bs = sized-some 3192 _ (sym c.if-not-is-sized.ensures.answer) in
+    let some : 1 ≤ length bs = sized_some 3192 _ (sym c.if-not-is-sized.ensures.answer) in
     let e : take (8 + length bs - 0) c.put-in-front.new.whole ≡ front ++ bs = simp unary_clauses c.put-in-front.ensures.after in
     let P : List ℕ → Type 0 = λ l. Posted (t.held below) (taken c.post.result (parcel c.args.to l)) (t.held c.post.new.self) in
     let timed = subst P e c.post.ensures.lost in
     record {
-      answer = c.post.ensures.answer ∙ ap (λ l. postAnswer (t.isOpen below c.args.to c.args.reading) (t.longest below) (length l)) e ∙ answer-eight _ (t.longest below) front bs refl some;
-      lost = posted-untimed _ _ c.args.to front bs _ refl some timed;
+      answer = c.post.ensures.answer ∙ ap (λ l. post_answer (t.isOpen below c.args.to c.args.reading) (t.longest below) (length l)) e ∙ answer_eight _ (t.longest below) front bs refl some;
+      lost = posted_untimed _ _ c.args.to front bs _ refl some timed;
       kept = ap (λ k. k - 8) c.post.ensures.kept;
       timed = timed;
       grace = refl;

@@ -1,23 +1,23 @@
 -- One more place is in use, or none.
 use Rattle.std.proofs.Common.{[], ◌∷◌, ◌++◌, map, length, vec_items, sym, refl, ap, ◌∙◌}
 use Rattle.std.proofs.lemmas.List.{map_push, append-nil}
-use Rattle.transport.specs.Mailboxes.{parcels, parcelAt, free}
-use Rattle.transport.specs.Boxes.{open-not, open_is}
-use Rattle.transport.specs.ParcelsLemmas.{posted-all, posted-none, answer-length, answer-closed, answer-taken}
+use Rattle.transport.specs.Mailboxes.{parcels, parcel_at, free}
+use Rattle.transport.specs.Boxes.{open_not, open_is}
+use Rattle.transport.specs.ParcelsLemmas.{posted_all, posted_none, answer_length, answer_closed, answer_taken}
 use Rattle.transport.proofs.mailbox.carrying.MailboxTransport.post.Goals as goal
 
 pub returns-then-not-is-sized : goal.returns-then-not-is-sized
 returns-then-not-is-sized c =
-    record { answer = answer-length (free c.args.self.now) 3200 (length c.args.bytes.now) (sym c.if-not-is-sized.ensures.answer); lost = posted-none _; kept = refl; exact = sym (append-nil _) }
+    record { answer = answer_length (free c.args.self.now) 3200 (length c.args.bytes.now) (sym c.if-not-is-sized.ensures.answer); lost = posted_none _; kept = refl; exact = sym (append-nil _) }
 
 pub returns-then-is-full : goal.returns-then-is-full
 returns-then-is-full c =
-    let full = open-not c.args.self.now (sym c.if-is-full.ensures.answer) in
-    record { answer = answer-closed (free c.args.self.now) 3200 (length c.args.bytes.now) (sym c.if-not-is-sized.ensures.answer) full; lost = posted-none _; kept = refl; exact = sym (append-nil _) }
+    let full = open_not c.args.self.now (sym c.if-is-full.ensures.answer) in
+    record { answer = answer_closed (free c.args.self.now) 3200 (length c.args.bytes.now) (sym c.if-not-is-sized.ensures.answer) full; lost = posted_none _; kept = refl; exact = sym (append-nil _) }
 
 pub returns : goal.returns
 unfolding parcels
 returns c =
     let room = open_is c.args.self.now (sym c.if-is-full.ensures.answer) in
-    let exact = ap (map parcelAt) c.push-reserved.ensures.items ∙ map_push parcelAt _ _ ∙ ap (λ p. map parcelAt (vec_items c.args.self.now.places) ++ (p ∷ [])) c.filled-place.ensures.answer in
-    record { answer = answer-taken (free c.args.self.now) 3200 (length c.args.bytes.now) (sym c.if-not-is-sized.ensures.answer) room; lost = posted-all _ _ _ exact; kept = refl; exact = exact }
+    let exact = ap (map parcel_at) c.push-reserved.ensures.items ∙ map_push parcel_at _ _ ∙ ap (λ p. map parcel_at (vec_items c.args.self.now.places) ++ (p ∷ [])) c.filled-place.ensures.answer in
+    record { answer = answer_taken (free c.args.self.now) 3200 (length c.args.bytes.now) (sym c.if-not-is-sized.ensures.answer) room; lost = posted_all _ _ _ exact; kept = refl; exact = exact }
