@@ -16,9 +16,9 @@ const FRONT: usize = 24;
 impl Checkpoint {
     // The checkpoint of the lattice's kind that the bytes spell, or why they spell none.
     pub fn read<L: Lattice>(bytes: &[u8]) -> Result<Checkpoint, Unreadable>
-        ensures answer { outcome saved result ≡ decode_saved kind bytes.now }
-        ensures spelling { IfOk result (λ c. bytes.now ≡ encode_saved kind (saved c)) }
-        ensures kind { IfOk result (λ c. of_kind kind (saved c).message ≡ true) }
+        ensures answer { outcome saved result ≡ decode_saved L.kind bytes.now }
+        ensures spelling { IfOk result (λ c. bytes.now ≡ encode_saved L.kind (saved c)) }
+        ensures kind { IfOk result (λ c. of_kind L.kind (saved c).message ≡ true) }
     {
         let (front, rest) = bytes.split_at(front_len(bytes));
         match Gossip::read::<L>(front) {

@@ -13,9 +13,9 @@ impl Checkpoint {
     // Writes the checkpoint, as one of the lattice's kind, to the front of the bytes and leaves the rest. The answer is its length.
     // The values of its message are not looked at, so it reads back exactly where they are of the kind: for callers that know that they are.
     pub fn write<L: Lattice>(&self, out: &mut [u8; ROOM]) -> usize
-        ensures answer { result ≡ length (encode_saved kind (saved self.now)) }
-        ensures buffer { out.new ≡ put_at 0 (encode_saved kind (saved self.now)) out.old }
-        ensures back { of_kind kind (saved self.now).message ≡ true → decode_saved kind (take result out.new) ≡ Ok (saved self.now) }
+        ensures answer { result ≡ length (encode_saved L.kind (saved self.now)) }
+        ensures buffer { out.new ≡ put_at 0 (encode_saved L.kind (saved self.now)) out.old }
+        ensures back { of_kind L.kind (saved self.now).message ≡ true → decode_saved L.kind (take result out.new) ≡ Ok (saved self.now) }
     {
         let at = self.message.spell::<L>(out);
         let n = self.message.head().n;

@@ -9,3 +9,4 @@ pub mod FormatLaws
 pub mod Contents
 pub mod WorkedCases
 pub mod Unions
+pub mod KindLaws

@@ -1,11 +1,7 @@
 // Kinds of values: what a seat's value can be, and how two of them join.
 ghost use Rattle.std.specs.Prelude.{◌≡◌};
 ghost use Rattle.gossip.specs.Lattices.{Kind, Laws, counts, ports};
-ghost use Rattle.std.proofs.Common.{rules, arith};
-ghost use Rattle.std.proofs.lemmas.Nat.{or_comm, or_lt};
-ghost use Rattle.std.specs.Int.Bits.{or_self};
-ghost use Rattle.std.proofs.lemmas.Bool.{leb-true, le-leb};
-ghost use Rattle.gossip.specs.Unions.{or_assoc};
+ghost use Rattle.gossip.specs.KindLaws.{counts_laws, ports_laws};
 
 // A kind of values. Each `impl` owes the laws of a join semilattice.
 pub trait Lattice {
@@ -38,7 +34,7 @@ pub struct Counts;
 impl Lattice for Counts {
     ghost kind = { counts };
 
-    ghost lawful = { Prim.search rules };
+    ghost lawful = { counts_laws };
 
     fn number() -> u8 {
         1
@@ -60,15 +56,7 @@ pub struct Ports;
 impl Lattice for Ports {
     ghost kind = { ports };
 
-    ghost lawful = { record {
-      byte = omega arith;
-      word = λ a v. omega (arith, leb-true a 65535 v);
-      closed = λ a b v w.
-          le-leb _ _ (omega (arith, or_lt 16 a b (omega (arith, leb-true a 65535 v)) (omega (arith, leb-true b 65535 w))));
-      commutes = λ a b v w. or_comm a b;
-      associates = λ a b c v w x. or_assoc a b c;
-      repeats = λ a v. or_self a;
-    } };
+    ghost lawful = { ports_laws };
 
     fn number() -> u8 {
         2

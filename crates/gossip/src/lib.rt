@@ -1,5 +1,7 @@
 // What the replicas of a seat service tell each other: multipart timestamps, the kinds of values that seats have, and the gossip message with its one spelling in bytes.
 // It knows no tables, no replicas and no group, so that a program that only reads or writes messages needs nothing else. Nothing here allocates.
+#![tactic(auto)]
+
 mod entry;
 mod head;
 mod lattice;

@@ -38,9 +38,9 @@ struct Fields {
 impl Gossip {
     // The message of the lattice's kind that the bytes spell, or the first rule that they break.
     pub fn read<L: Lattice>(bytes: &[u8]) -> Result<Gossip, Refusal>
-        ensures answer { outcome contents result ≡ decode kind bytes.now }
-        ensures spelling { IfOk result (λ g. bytes.now ≡ encode kind (contents g)) }
-        ensures kind { IfOk result (λ g. of_kind kind (contents g) ≡ true) }
+        ensures answer { outcome contents result ≡ decode L.kind bytes.now }
+        ensures spelling { IfOk result (λ g. bytes.now ≡ encode L.kind (contents g)) }
+        ensures kind { IfOk result (λ g. of_kind L.kind (contents g) ≡ true) }
     {
         let (head, count) = read_head::<L>(bytes)?;
         let at = FRONT + 4 * head.n;
@@ -50,7 +50,7 @@ impl Gossip {
 
 // The head and the number of entries.
 fn read_head<L: Lattice>(bytes: &[u8]) -> Result<(Head, usize), Refusal>
-    ensures answer { outcome (λ p. p.0) result ≡ decode_head kind bytes.now }
+    ensures answer { outcome (λ p. p.0) result ≡ decode_head L.kind bytes.now }
     ensures count { IfOk result (λ p. (p.1 ≡ field 8 2 bytes.now) × (p.1 ≤ 64) × (length bytes.now ≡ message_length p.0.n p.1)) }
     ensures sound { IfOk result (λ p. sound_head p.0 ≡ true) }
 {
@@ -128,7 +128,7 @@ fn read_entries<L: Lattice>(head: Head, count: usize, bytes: &[u8]) -> Result<Go
     requires sound { sound_head head ≡ true }
     requires few { count ≤ 64 }
     requires whole { length bytes.now ≡ count * entry_length head.n }
-    ensures { outcome contents result ≡ decode_entries kind head (pieces (entry_length head.n) count bytes.now) }
+    ensures { outcome contents result ≡ decode_entries L.kind head (pieces (entry_length head.n) count bytes.now) }
 {
     let size = 20 + 4 * head.n;
     if !seats_rise(bytes, size, count) {
@@ -189,7 +189,7 @@ fn seats_rise(bytes: &[u8], size: usize, count: usize) -> bool
 fn read_state<L: Lattice>(entry: &[u8], n: usize, top: &Timestamp) -> Option<State>
     requires few { n ≤ 7 }
     requires whole { length entry.now ≡ entry_length n }
-    ensures { result ≡ state_at kind n top.now entry.now }
+    ensures { result ≡ state_at L.kind n top.now entry.now }
 {
     let timestamp = Timestamp::from_bytes(&entry[20..], n);
     match u32_at(entry, 16) {
@@ -200,7 +200,7 @@ fn read_state<L: Lattice>(entry: &[u8], n: usize, top: &Timestamp) -> Option<Sta
 }
 
 fn read_value<L: Lattice>(word: u64, timestamp: &Timestamp) -> Option<State>
-    ensures { result ≡ value_at kind word timestamp.now }
+    ensures { result ≡ value_at L.kind word timestamp.now }
 {
     if L::is_value(word) && timestamp.is_of(0) {
         Some(State::Value(word))

@@ -20,9 +20,9 @@ impl Gossip {
     // Writes the message, as one of the lattice's kind, to the front of the bytes and leaves the rest. The answer is its length.
     // A value that is not of the kind is refused, and nothing is written then.
     pub fn write<L: Lattice>(&self, out: &mut [u8; ROOM]) -> Result<usize, Refusal>
-        ensures answer { outcome (λ len. len) result ≡ unless (of_kind kind (contents self.now)) 26 (Ok (length (encode kind (contents self.now)))) }
-        ensures buffer { out.new ≡ (if of_kind kind (contents self.now) then put_at 0 (encode kind (contents self.now)) out.old else out.old) }
-        ensures back { IfOk result (λ len. decode kind (take len out.new) ≡ Ok (contents self.now)) }
+        ensures answer { outcome (λ len. len) result ≡ unless (of_kind L.kind (contents self.now)) 26 (Ok (length (encode L.kind (contents self.now)))) }
+        ensures buffer { out.new ≡ (if of_kind L.kind (contents self.now) then put_at 0 (encode L.kind (contents self.now)) out.old else out.old) }
+        ensures back { IfOk result (λ len. decode L.kind (take len out.new) ≡ Ok (contents self.now)) }
     {
         if !are_of_kind::<L>(self.entries()) {
             return Err(Refusal::Mark);
@@ -33,9 +33,9 @@ impl Gossip {
     // Writes the message, as one of the lattice's kind, to the front of the bytes and leaves the rest. The answer is its length.
     // The values are not looked at, so it reads back exactly where they are of the kind: for callers that know that they are.
     pub fn spell<L: Lattice>(&self, out: &mut [u8; ROOM]) -> usize
-        ensures answer { result ≡ length (encode kind (contents self.now)) }
-        ensures buffer { out.new ≡ put_at 0 (encode kind (contents self.now)) out.old }
-        ensures back { of_kind kind (contents self.now) ≡ true → decode kind (take result out.new) ≡ Ok (contents self.now) }
+        ensures answer { result ≡ length (encode L.kind (contents self.now)) }
+        ensures buffer { out.new ≡ put_at 0 (encode L.kind (contents self.now)) out.old }
+        ensures back { of_kind L.kind (contents self.now) ≡ true → decode L.kind (take result out.new) ≡ Ok (contents self.now) }
         ensures fits { result ≤ 3124 }
     {
         let head = self.head;
@@ -67,7 +67,7 @@ impl Gossip {
 
 // Whether the values among the entries are of the lattice's kind.
 fn are_of_kind<L: Lattice>(entries: &[Entry]) -> bool
-    ensures { result ≡ every (λ e. of_kind_state kind e.state) entries.now }
+    ensures { result ≡ every (λ e. of_kind_state L.kind e.state) entries.now }
 {
     for entry in entries {
         if !is_of_kind::<L>(&entry.state) {
@@ -78,7 +78,7 @@ fn are_of_kind<L: Lattice>(entries: &[Entry]) -> bool
 }
 
 fn is_of_kind<L: Lattice>(state: &State) -> bool
-    ensures { result ≡ of_kind_state kind state.now }
+    ensures { result ≡ of_kind_state L.kind state.now }
 {
     match state {
         State::Value(value) => L::is_value(*value),

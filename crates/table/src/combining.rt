@@ -6,7 +6,7 @@ use gossip::{Lattice, State};
 
 // Values join, a tombstone outlasts a value, and two tombstones keep the later time and the merged timestamps.
 pub fn combine<L: Lattice>(held: State, other: State) -> State
-    ensures answer { result ≡ combine kind.join held other }
+    ensures answer { result ≡ combine L.kind.join held other }
 {
     match (held, other) {
         (State::Value(x), State::Value(y)) => State::Value(L::join(x, y)),

@@ -30,7 +30,7 @@ impl Replica {
         time: u64,
         reading: u64,
     ) -> Result<Change, Refusal>
-        ensures step { Took (step kind self.old.membership (memory self.old) (enters seat value time reading)) self.old (outcome change_of result) self.new }
+        ensures step { Took (step L.kind self.old.membership (memory self.old) (enters seat value time reading)) self.old (outcome change_of result) self.new }
     {
         if !are_times(time, reading) {
             return Err(Refusal::Time);
@@ -81,7 +81,7 @@ impl Replica {
 
     // The state that an enter gives a seat; none where nothing changes.
     fn entered<L: Lattice>(&self, seat: u64, value: u64) -> Option<State>
-        ensures answer { result ≡ entered kind value (find (contents self.now.table) seat) }
+        ensures answer { result ≡ entered L.kind value (find (contents self.now.table) seat) }
     {
         match self.table.find(seat) {
             Some(state) => match state {
@@ -144,7 +144,7 @@ impl Replica {
 
 // The value that an enter gives a seat that holds one; none where the join is the value held.
 fn joined<L: Lattice>(held: u64, value: u64) -> Option<State>
-    ensures { result ≡ (if nat_eq (kind.join held value) held then None else Some (Value (kind.join held value))) }
+    ensures { result ≡ (if nat_eq (L.kind.join held value) held then None else Some (Value (L.kind.join held value))) }
 {
     let joined = L::join(held, value);
     if joined == held {

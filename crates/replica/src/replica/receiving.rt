@@ -20,7 +20,7 @@ impl Replica {
         message: &Gossip,
         reading: u64,
     ) -> Result<Receipt, Refusal>
-        ensures step { Took (step kind self.old.membership (memory self.old) (receives (said message.now) reading)) self.old (outcome receipt_of result) self.new }
+        ensures step { Took (step L.kind self.old.membership (memory self.old) (receives (said message.now) reading)) self.old (outcome receipt_of result) self.new }
     {
         if reading > LATEST {
             return Err(Refusal::Time);
@@ -34,7 +34,7 @@ impl Replica {
         bytes: &[u8],
         reading: u64,
     ) -> Result<Receipt, Refusal>
-        ensures step { Took (receive_bytes kind self.old.membership (memory self.old) bytes.now reading) self.old (outcome receipt_of result) self.new }
+        ensures step { Took (receive_bytes L.kind self.old.membership (memory self.old) bytes.now reading) self.old (outcome receipt_of result) self.new }
     {
         if reading > LATEST {
             return Err(Refusal::Time);
@@ -48,7 +48,7 @@ impl Replica {
     // Takes in a message that was read, unless it is another group's or has no news. The table is merged first, since it alone can refuse.
     fn hear<L: Lattice>(&mut self, message: &Gossip, reading: u64) -> Result<Receipt, Refusal>
         requires { nat_le reading latest ≡ true }
-        ensures step { Took (hear kind self.old.membership (memory self.old) (said message.now) reading) self.old (outcome receipt_of result) self.new }
+        ensures step { Took (hear L.kind self.old.membership (memory self.old) (said message.now) reading) self.old (outcome receipt_of result) self.new }
     {
         let head = message.head();
         if head.group != self.membership.group {

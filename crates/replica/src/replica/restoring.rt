@@ -12,11 +12,11 @@ use gossip::{Head, Lattice};
 impl Replica {
     // Becomes what the bytes of its checkpoint say, in the memory that is there; a refusal changes nothing.
     pub fn restore<L: Lattice>(&mut self, bytes: &[u8]) -> Result<(), Unreadable>
-        ensures answer { outcome (λ _. memory self.new) result ≡ decode_memory kind self.old.membership bytes.now }
-        ensures after { memory self.new ≡ restored (decode_memory kind self.old.membership bytes.now) (memory self.old) }
+        ensures answer { outcome (λ _. memory self.new) result ≡ decode_memory L.kind self.old.membership bytes.now }
+        ensures after { memory self.new ≡ restored (decode_memory L.kind self.old.membership bytes.now) (memory self.old) }
         ensures kept { self.new.membership ≡ self.old.membership }
-        ensures spelling { OnOk result (bytes.now ≡ encode_memory kind self.old.membership (memory self.new)) }
-        ensures kind { OnOk result (of_kind_memory kind (memory self.new) ≡ true) }
+        ensures spelling { OnOk result (bytes.now ≡ encode_memory L.kind self.old.membership (memory self.new)) }
+        ensures kind { OnOk result (of_kind_memory L.kind (memory self.new) ≡ true) }
     {
         let checkpoint = Checkpoint::read::<L>(bytes)?;
         let message = checkpoint.message();

@@ -35,18 +35,18 @@ impl Replica {
 
     // Writes the message to the front of the bytes and leaves the rest. The answer is its length.
     pub fn write_message<L: Lattice>(&self, out: &mut [u8; ROOM]) -> usize
-        ensures answer { result ≡ length (encode kind (message_of self.now.membership (memory self.now))) }
-        ensures buffer { out.new ≡ put_at 0 (encode kind (message_of self.now.membership (memory self.now))) out.old }
-        ensures back { of_kind_memory kind (memory self.now) ≡ true → decode kind (take result out.new) ≡ Ok (message_of self.now.membership (memory self.now)) }
+        ensures answer { result ≡ length (encode L.kind (message_of self.now.membership (memory self.now))) }
+        ensures buffer { out.new ≡ put_at 0 (encode L.kind (message_of self.now.membership (memory self.now))) out.old }
+        ensures back { of_kind_memory L.kind (memory self.now) ≡ true → decode L.kind (take result out.new) ≡ Ok (message_of self.now.membership (memory self.now)) }
     {
         self.message().spell::<L>(out)
     }
 
     // Writes the checkpoint to the front of the bytes and leaves the rest. The answer is its length.
     pub fn write_checkpoint<L: Lattice>(&self, out: &mut [u8; ROOM]) -> usize
-        ensures answer { result ≡ length (encode_memory kind self.now.membership (memory self.now)) }
-        ensures buffer { out.new ≡ put_at 0 (encode_memory kind self.now.membership (memory self.now)) out.old }
-        ensures back { of_kind_memory kind (memory self.now) ≡ true → decode_memory kind self.now.membership (take result out.new) ≡ Ok (memory self.now) }
+        ensures answer { result ≡ length (encode_memory L.kind self.now.membership (memory self.now)) }
+        ensures buffer { out.new ≡ put_at 0 (encode_memory L.kind self.now.membership (memory self.now)) out.old }
+        ensures back { of_kind_memory L.kind (memory self.now) ≡ true → decode_memory L.kind self.now.membership (take result out.new) ≡ Ok (memory self.now) }
     {
         self.checkpoint().write::<L>(out)
     }

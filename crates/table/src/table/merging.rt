@@ -13,8 +13,8 @@ use gossip::{Entry, Gossip, Lattice};
 impl Table {
     // Takes in a message's entries; refused where more than 64 would result, and nothing changes then. So the fresh seats are counted first.
     pub fn merge<L: Lattice>(&mut self, message: &Gossip) -> Result<(), Full>
-        ensures answer { outcome result ≡ if_fits (merge kind.join (contents self.old) (said message.now).entries) }
-        ensures after { contents self.new ≡ (if is_ok result then merge kind.join (contents self.old) (said message.now).entries else contents self.old) }
+        ensures answer { outcome result ≡ if_fits (merge L.kind.join (contents self.old) (said message.now).entries) }
+        ensures after { contents self.new ≡ (if is_ok result then merge L.kind.join (contents self.old) (said message.now).entries else contents self.old) }
     {
         let entries = message.entries();
         if self.len() + self.fresh(entries) > ENTRIES {
@@ -41,8 +41,8 @@ impl Table {
 
     // Takes in one entry: what it says of its seat is combined with what is held.
     fn absorb<L: Lattice>(&mut self, told: Entry) -> Result<(), Full>
-        ensures answer { outcome result ≡ if_fits (absorbed kind.join (contents self.old) told.seat told.state) }
-        ensures after { contents self.new ≡ (if is_ok result then absorbed kind.join (contents self.old) told.seat told.state else contents self.old) }
+        ensures answer { outcome result ≡ if_fits (absorbed L.kind.join (contents self.old) told.seat told.state) }
+        ensures after { contents self.new ≡ (if is_ok result then absorbed L.kind.join (contents self.old) told.seat told.state else contents self.old) }
     {
         let state = match self.find(told.seat) {
             Some(held) => combine::<L>(held, told.state),

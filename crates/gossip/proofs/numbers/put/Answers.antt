@@ -10,6 +10,6 @@ returns c =
     let at = c.args.at in
     let w = c.args.width in
     let k : length (take (at + w - at) (drop at o)) ≡ w = simp (length-take, length-drop) (omega arith) in
-    let y : c.write-le.new.out ≡ bytes w c.args.value = c.write-le.ensures ∙ ap (λ j. bytes j c.args.value) k in
-    let l : length c.write-le.new.out ≡ at + w - at = ap length y ∙ length-bytes w c.args.value ∙ (omega arith) in
-    put_mid-put_at at (at + w - at) o c.write-le.new.out l ∙ ap (λ z. put_at at z o) y
+    let y : c.write_le.new.out ≡ bytes w c.args.value = c.write_le.ensures ∙ ap (λ j. bytes j c.args.value) k in
+    let l : length c.write_le.new.out ≡ at + w - at = ap length y ∙ length-bytes w c.args.value ∙ (omega arith) in
+    put_mid-put_at at (at + w - at) o c.write_le.new.out l ∙ ap (λ z. put_at at z o) y

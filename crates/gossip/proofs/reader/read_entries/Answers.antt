@@ -20,8 +20,8 @@ loop-i-preserved g c =
     let h = c.args.head in
     let ps = pieces (entry_length h.n) c.args.count c.args.bytes.now in
     let l = length-pieces (entry_length c.args.head.n) c.args.count c.args.bytes.now in (
-      reading_more g.L.Lattice.kind h.n h.timestamp ps c.loop-i.entries c.loop-i.i c.piece-entry.result.now c.in-Some.state c.u64-at.result (omega arith)
-          (omega (arith, c.loop-i.invariant.1)) c.piece-entry.ensures.value (sym c.in-Some.is ∙ c.read-state.ensures) c.u64-at.ensures c.loop-i.invariant.0,
+      reading_more g.L.Lattice.kind h.n h.timestamp ps c.loop-i.entries c.loop-i.i c.piece-entry.result.now c.in-Some.state c.u64_at.result (omega arith)
+          (omega (arith, c.loop-i.invariant.1)) c.piece-entry.ensures.value (sym c.in-Some.is ∙ c.read_state.ensures) c.u64_at.ensures c.loop-i.invariant.0,
       length-set c.loop-i.entries c.loop-i.i _ ∙ c.loop-i.invariant.1,
     )
 
@@ -69,5 +69,5 @@ returns g c =
     let ps = pieces (entry_length h.n) c.args.count c.args.bytes.now in
     let l = length-pieces (entry_length c.args.head.n) c.args.count c.args.bytes.now in
     let z : c.loop-i.i ≡ c.args.count = omega arith in
-    with_entries_lem k h ps (Some (take c.args.count c.loop-i.entries)) (sym c.if-not-seats-rise.ensures)
+    with_entries_lem k h ps (Some (take c.args.count c.loop-i.entries)) (sym c.if-not-seats_rise.ensures)
     (ap (λ i. Some (take i c.loop-i.entries)) (sym z) ∙ reading_ends k h.n h.timestamp ps c.loop-i.entries c.loop-i.i (omega arith) c.loop-i.invariant.0)

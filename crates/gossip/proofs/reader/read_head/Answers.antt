@@ -36,9 +36,9 @@ returns-then-not-is-laid-out g c =
 pub returns-then-fields-gt-LATEST : goal.returns-then-fields-gt-LATEST
 returns-then-fields-gt-LATEST g c =
     let b = c.args.bytes.now in
-    let f = c.read-fields-fields.ensures in
-    let o = sym (ap₂ origin c.from-n.ensures c.from-sender.ensures) ∙ sym c.if-not-is-origin.ensures in
-    let l = laid_out_is g.L.Lattice.kind b c.if-not-is-laid-out.ensures c.from-n.ensures f.count f.timestamp-at f.entries_at f.len in
+    let f = c.read_fields-fields.ensures in
+    let o = sym (ap₂ origin c.from-n.ensures c.from-sender.ensures) ∙ sym c.if-not-is_origin.ensures in
+    let l = laid_out_is g.L.Lattice.kind b c.if-not-is_laid_out.ensures c.from-n.ensures f.count f.timestamp-at f.entries_at f.len in
     let t = f.clock ∙ field-rest 4 12 8 b in
     record { answer = too_late _ b c.if-bytes-lt-FRONT.false c.if-form-ne-FORM.false (c.if-kind-number.false ∙ c.number.ensures.answer) o l (omega arith); count = tt; sound = tt }
 
@@ -46,12 +46,12 @@ pub returns : goal.returns
 returns g c =
     let b = c.args.bytes.now in
     let k = g.L.Lattice.kind in
-    let f = c.read-fields-fields.ensures in
-    let o = sym (ap₂ origin c.from-n.ensures c.from-sender.ensures) ∙ sym c.if-not-is-origin.ensures in
-    let l = laid_out_is k b c.if-not-is-laid-out.ensures c.from-n.ensures f.count f.timestamp-at f.entries_at f.len in
+    let f = c.read_fields-fields.ensures in
+    let o = sym (ap₂ origin c.from-n.ensures c.from-sender.ensures) ∙ sym c.if-not-is_origin.ensures in
+    let l = laid_out_is k b c.if-not-is_laid_out.ensures c.from-n.ensures f.count f.timestamp-at f.entries_at f.len in
     let t = f.clock ∙ field-rest 4 12 8 b in
     let m = c.from.ensures ∙ f.count ∙ field-rest 4 4 2 b in
-    let h : Head = record { n = c.from-n.result; sender = c.from-sender.result; group = c.read-fields-fields.result.group; clock = c.read-fields-fields.result.clock; timestamp = c.from-bytes-timestamp.result } in
+    let h : Head = record { n = c.from-n.result; sender = c.from-sender.result; group = c.read_fields-fields.result.group; clock = c.read_fields-fields.result.clock; timestamp = c.from-bytes-timestamp.result } in
     let a : Ok h ≡ decode_head k b
     = ap Ok (head_at_lem b h c.from-n.ensures c.from-sender.ensures (f.group ∙ field-rest 4 0 4 b) t (c.from-bytes-timestamp.ensures ∙ timestamp_rest 24 _ b))
     ∙ head_read k b c.if-bytes-lt-FRONT.false c.if-form-ne-FORM.false (c.if-kind-number.false ∙ c.number.ensures.answer) o l (omega arith) in

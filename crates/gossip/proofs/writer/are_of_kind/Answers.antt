@@ -9,7 +9,7 @@ returns-then-not-is-of-kind g c =
 
 pub loop-entry-preserved : goal.loop-entry-preserved
 loop-entry-preserved g c =
-    every_more (λ e. of_kind_state g.L.Lattice.kind e.state) _ _ _ _ c.loop-entry-test.true (sym c.if-not-is-of-kind.ensures) c.loop-entry.invariant
+    every_more (λ e. of_kind_state g.L.Lattice.kind e.state) _ _ _ _ c.loop-entry-test.true (sym c.if-not-is_of_kind.ensures) c.loop-entry.invariant
 
 pub returns : goal.returns
 returns g c = every_all (λ e. of_kind_state g.L.Lattice.kind e.state) _ _ _ c.loop-entry-test.false c.loop-entry.invariant

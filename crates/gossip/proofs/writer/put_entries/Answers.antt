@@ -21,7 +21,7 @@ pub loop-i-preserved : goal.loop-i-preserved
 loop-i-preserved c =
     let f = piece_within c.loop-i.i (length c.args.entries.now) (entry_length c.args.n) c.loop-i-test.true in
     written_next (encode_entry c.args.n) (entry_length c.args.n) _ _ _ _ _ _ _ _ _ c.loop-i.invariant c.loop-i-test.true refl
-    c.put-entry.ensures.long (omega arith) (omega arith) c.put-entry.ensures.written
+    c.put_entry.ensures.long (omega arith) (omega arith) c.put_entry.ensures.written
 
 pub returns : goal.returns
 returns c =

@@ -11,6 +11,6 @@ returns c =
     let l = length-spell entry_widths numbers refl in
     let t : length (encode_timestamp c.args.n (timestamp_of e.state)) ≡ 4 * c.args.n = cc in
     record {
-      written = put_then c.args.at (c.args.at + 20) (spell entry_widths numbers) (encode_timestamp c.args.n (timestamp_of e.state)) _ c.put-numbers.new.out _ (omega arith) (omega arith) (cc) (cc);
+      written = put_then c.args.at (c.args.at + 20) (spell entry_widths numbers) (encode_timestamp c.args.n (timestamp_of e.state)) _ c.put_numbers.new.out _ (omega arith) (omega arith) (cc) (cc);
       long = simp length-append (omega arith);
     }

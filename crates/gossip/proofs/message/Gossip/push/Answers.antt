@@ -28,6 +28,6 @@ returns c =
     let m = take_more_set g.entries g.count e (omega arith) in
     let f : ltb (length (take g.count g.entries)) 64 ≡ true = lt-ltb _ _ (omega arith) in
     let p : pushed (contents g) e ≡ Ok record { head = g.head; entries = take g.count g.entries ++ e ∷ [] }
-    = simp (f, sym c.if-not-rises-to.ensures.answer, sym c.if-not-is-allowed.ensures.answer) in
+    = simp (f, sym c.if-not-rises_to.ensures.answer, sym c.if-not-is_allowed.ensures.answer) in
     let q = ap (λ xs. record { head = g.head; entries = xs }) m in
     record { answer = ap Ok q ∙ sym p; after = q ∙ sym (ap (λ x. after x (contents g)) p) }

@@ -31,7 +31,7 @@ pub returns : goal.returns
 returns g c =
     let k = g.L.Lattice.kind in
     let b = c.args.bytes.now in
-    let h = c.in-ok-head.ensures in
-    let a = c.read-entries.ensures ∙ with-head k b c.in-ok-head.head c.in-ok-head.count h.answer h.count.0 in
-    let bytes : Bytes b = λ i. (c.type-inv.bytes i).fits in
-    record { answer = a; spelling = spelled k b bytes c.read-entries.result a; kind = of_kind_lem k b bytes c.read-entries.result a }
+    let h = c.in_ok-head.ensures in
+    let a = c.read_entries.ensures ∙ with-head k b c.in_ok-head.head c.in_ok-head.count h.answer h.count.0 in
+    let bytes : Bytes b = λ i. (c.ok.bytes i).fits in
+    record { answer = a; spelling = spelled k b bytes c.read_entries.result a; kind = of_kind_lem k b bytes c.read_entries.result a }

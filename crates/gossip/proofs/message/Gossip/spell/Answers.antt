@@ -22,9 +22,9 @@ returns g c =
     let few : c.args.self.now.head.n ≤ 7 = search rules in
     let count : length m.entries ≡ c.args.self.now.count = length-take-le _ _ (omega arith) in
     let entries = c.entries.ensures.answer in
-    let long : length (encode k m) ≡ message_length m.head.n c.args.self.now.count = message_long k m c.put-timestamp.ensures.long (cc) ∙ ap (message_length m.head.n) count in
-    let written : c.put-entries.new.out ≡ put_at 0 (encode k m) c.args.out.now
-    = message_written k m _ _ _ _ c.put-timestamp.ensures.long (omega arith) (cc) c.put-timestamp.ensures.written (cc) in
+    let long : length (encode k m) ≡ message_length m.head.n c.args.self.now.count = message_long k m c.put_timestamp.ensures.long (cc) ∙ ap (message_length m.head.n) count in
+    let written : c.put_entries.new.out ≡ put_at 0 (encode k m) c.args.out.now
+    = message_written k m _ _ _ _ c.put_timestamp.ensures.long (omega arith) (cc) c.put_timestamp.ensures.written (cc) in
     record {
       answer = sym long;
       buffer = written;

@@ -6,7 +6,7 @@ use Rattle.gossip.proofs.message.Gossip.write.Goals as goal
 pub returns : goal.returns
 returns g c =
     let entries = c.entries.ensures.answer in
-    let test = c.if-not-are-of-kind.ensures in
+    let test = c.if-not-are_of_kind.ensures in
     let kind : of_kind g.L.Lattice.kind (contents c.args.self.now) ≡ true = cc in
     record {
       answer = rw kind (ap Ok c.spell.ensures.answer);

@@ -7,8 +7,8 @@ use Rattle.gossip.proofs.message.building.is_allowed.Goals as goal
 pub returns-in-Tombstone : goal.returns-in-Tombstone
 returns-in-Tombstone c =
     let top = c.args.top.now in
-    let e = c.is-covered.ensures.answer in
+    let e = c.is_covered.ensures.answer in
     record {
       answer = e ∙ ap (allowed top) (sym c.in-Tombstone.is);
-      wide = λ r w. subst (λ (s : State). wide_state s ≡ true) (sym c.in-Tombstone.is) (wide_under c.in-Tombstone.time c.in-Tombstone.timestamp top c.is-covered.ensures.alike (sym e ∙ r) w);
+      wide = λ r w. subst (λ (s : State). wide_state s ≡ true) (sym c.in-Tombstone.is) (wide_under c.in-Tombstone.time c.in-Tombstone.timestamp top c.is_covered.ensures.alike (sym e ∙ r) w);
     }

@@ -12,8 +12,8 @@ pub loop-i-preserved : goal.loop-i-preserved
 loop-i-preserved c =
     let i = c.loop-i.i in
     let b = c.args.src.now in
-    let v : c.u32-at.result ≡ field (i * 4) 4 b = c.u32-at.ensures ∙ ap (λ k. field k 4 b) (mul_comm 4 i) in
-    counted_more 0 (counters i b) c.loop-i.parts i c.u32-at.result (omega arith) (length-counters i b) c.loop-i.invariant
+    let v : c.u32_at.result ≡ field (i * 4) 4 b = c.u32_at.ensures ∙ ap (λ k. field k 4 b) (mul_comm 4 i) in
+    counted_more 0 (counters i b) c.loop-i.parts i c.u32_at.result (omega arith) (length-counters i b) c.loop-i.invariant
     ∙ ap (λ x. (counters i b ++ x ∷ []) ++ replicate (7 - (i + 1)) 0) v ∙ ap (λ xs. xs ++ replicate (7 - (i + 1)) 0) (sym (counters_more i b))
 
 pub returns : goal.returns

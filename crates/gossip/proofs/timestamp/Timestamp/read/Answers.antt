@@ -6,5 +6,5 @@ pub returns : goal.returns
 returns c =
     let b = c.args.buffer.now in
     let l = exact_length c.args.n (length b) (sym c.if-not-exact.ensures) in
-    let e = padded_is c.args.n b c.copy-from-slice.new.self l c.copy-from-slice.ensures.after in
+    let e = padded_is c.args.n b c.copy_from_slice.new.self l c.copy_from_slice.ensures.after in
     record { answer = simp (sym c.if-not-exact.ensures) (ap Ok e) }
