@@ -1,5 +1,4 @@
 -- Counts and ports keep the laws of a kind. Assumes nothing.
-use Rattle.std.specs.Prelude.{ℕ}
 use Rattle.std.proofs.Common.{rules, arith}
 use Rattle.std.proofs.lemmas.Nat.{or_comm, or_lt}
 use Rattle.std.proofs.lemmas.Bool.{leb-true, le-leb}

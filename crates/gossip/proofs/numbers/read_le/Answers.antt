@@ -4,15 +4,15 @@ use Rattle.gossip.specs.Numbers.{number}
 use Rattle.gossip.proofs.NumberLaws.{number-drop, number-drop_small}
 use Rattle.gossip.proofs.numbers.read_le.Goals as goal
 
-pub overflow-mul-value : goal.overflow-mul-value
-overflow-mul-value c =
-    let s = number-drop_small c.args.src.now c.loop-i.i 7 (λ i. (c.type-inv.src i).fits) (omega arith) in
+pub overflow_mul-value : goal.overflow_mul-value
+overflow_mul-value c =
+    let s = number-drop_small c.args.src.now c.loop-i.i 7 (λ i. (c.type_inv.src i).fits) (omega arith) in
     omega (arith, c.loop-i.invariant)
 
-pub overflow-add-value : goal.overflow-add-value
-overflow-add-value c =
-    let s = number-drop_small c.args.src.now c.loop-i.i 7 (λ i. (c.type-inv.src i).fits) (omega arith) in
-    let t = (c.type-inv.src (c.loop-i.i - 1)).fits in
+pub overflow_add-value : goal.overflow_add-value
+overflow_add-value c =
+    let s = number-drop_small c.args.src.now c.loop-i.i 7 (λ i. (c.type_inv.src i).fits) (omega arith) in
+    let t = (c.type_inv.src (c.loop-i.i - 1)).fits in
     omega (arith, c.loop-i.invariant)
 
 pub loop-i-init : goal.loop-i-init

@@ -2,8 +2,8 @@ use Rattle.std.proofs.Common.{◌≡◌, ◌+◌, ◌-◌, ◌*◌, take, drop, 
 use Rattle.gossip.proofs.NumberLaws.{piece_within, pieces-at}
 use Rattle.gossip.proofs.reader.piece.Goals as goal
 
-pub slice-bounds-result-end : goal.slice-bounds-result-end
-slice-bounds-result-end c =
+pub slice_bounds-result-end : goal.slice_bounds-result-end
+slice_bounds-result-end c =
     let f = piece_within c.args.i c.args.count c.args.size c.requires.within in
     omega (arith, c.requires.whole)
 

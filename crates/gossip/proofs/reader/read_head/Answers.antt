@@ -16,21 +16,21 @@ pub returns-then-kind-number : goal.returns-then-kind-number
 returns-then-kind-number g c =
     record { answer = other_kind _ _ c.if-bytes-lt-FRONT.false c.if-form-ne-FORM.false (λ e. c.if-kind-number.true (e ∙ sym c.number.ensures.answer)); count = tt; sound = tt }
 
-pub returns-then-not-is-origin : goal.returns-then-not-is-origin
-returns-then-not-is-origin g c =
+pub returns-then-not-is_origin : goal.returns-then-not-is_origin
+returns-then-not-is_origin g c =
     record {
       answer = no_origin _ _ c.if-bytes-lt-FRONT.false c.if-form-ne-FORM.false
-          (sym (ap₂ origin c.from-n.ensures c.from-sender.ensures) ∙ sym c.if-not-is-origin.ensures);
+          (sym (ap₂ origin c.from-n.ensures c.from-sender.ensures) ∙ sym c.if-not-is_origin.ensures);
       count = tt;
       sound = tt;
     }
 
-pub returns-then-not-is-laid-out : goal.returns-then-not-is-laid-out
-returns-then-not-is-laid-out g c =
+pub returns-then-not-is_laid_out : goal.returns-then-not-is_laid_out
+returns-then-not-is_laid_out g c =
     let b = c.args.bytes.now in
-    let f = c.read-fields-fields.ensures in
-    let o = sym (ap₂ origin c.from-n.ensures c.from-sender.ensures) ∙ sym c.if-not-is-origin.ensures in
-    let l = laid_out_is g.L.Lattice.kind b c.if-not-is-laid-out.ensures c.from-n.ensures f.count f.timestamp-at f.entries_at f.len in
+    let f = c.read_fields-fields.ensures in
+    let o = sym (ap₂ origin c.from-n.ensures c.from-sender.ensures) ∙ sym c.if-not-is_origin.ensures in
+    let l = laid_out_is g.L.Lattice.kind b c.if-not-is_laid_out.ensures c.from-n.ensures f.count f.timestamp_at f.entries_at f.len in
     record { answer = mislaid _ b c.if-bytes-lt-FRONT.false c.if-form-ne-FORM.false (c.if-kind-number.false ∙ c.number.ensures.answer) o l; count = tt; sound = tt }
 
 pub returns-then-fields-gt-LATEST : goal.returns-then-fields-gt-LATEST
@@ -38,7 +38,7 @@ returns-then-fields-gt-LATEST g c =
     let b = c.args.bytes.now in
     let f = c.read_fields-fields.ensures in
     let o = sym (ap₂ origin c.from-n.ensures c.from-sender.ensures) ∙ sym c.if-not-is_origin.ensures in
-    let l = laid_out_is g.L.Lattice.kind b c.if-not-is_laid_out.ensures c.from-n.ensures f.count f.timestamp-at f.entries_at f.len in
+    let l = laid_out_is g.L.Lattice.kind b c.if-not-is_laid_out.ensures c.from-n.ensures f.count f.timestamp_at f.entries_at f.len in
     let t = f.clock ∙ field-rest 4 12 8 b in
     record { answer = too_late _ b c.if-bytes-lt-FRONT.false c.if-form-ne-FORM.false (c.if-kind-number.false ∙ c.number.ensures.answer) o l (omega arith); count = tt; sound = tt }
 
@@ -48,15 +48,15 @@ returns g c =
     let k = g.L.Lattice.kind in
     let f = c.read_fields-fields.ensures in
     let o = sym (ap₂ origin c.from-n.ensures c.from-sender.ensures) ∙ sym c.if-not-is_origin.ensures in
-    let l = laid_out_is k b c.if-not-is_laid_out.ensures c.from-n.ensures f.count f.timestamp-at f.entries_at f.len in
+    let l = laid_out_is k b c.if-not-is_laid_out.ensures c.from-n.ensures f.count f.timestamp_at f.entries_at f.len in
     let t = f.clock ∙ field-rest 4 12 8 b in
     let m = c.from.ensures ∙ f.count ∙ field-rest 4 4 2 b in
-    let h : Head = record { n = c.from-n.result; sender = c.from-sender.result; group = c.read_fields-fields.result.group; clock = c.read_fields-fields.result.clock; timestamp = c.from-bytes-timestamp.result } in
+    let h : Head = record { n = c.from-n.result; sender = c.from-sender.result; group = c.read_fields-fields.result.group; clock = c.read_fields-fields.result.clock; timestamp = c.from_bytes-timestamp.result } in
     let a : Ok h ≡ decode_head k b
-    = ap Ok (head_at_lem b h c.from-n.ensures c.from-sender.ensures (f.group ∙ field-rest 4 0 4 b) t (c.from-bytes-timestamp.ensures ∙ timestamp_rest 24 _ b))
+    = ap Ok (head_at_lem b h c.from-n.ensures c.from-sender.ensures (f.group ∙ field-rest 4 0 4 b) t (c.from_bytes-timestamp.ensures ∙ timestamp_rest 24 _ b))
     ∙ head_read k b c.if-bytes-lt-FRONT.false c.if-form-ne-FORM.false (c.if-kind-number.false ∙ c.number.ensures.answer) o l (omega arith) in
     record {
       answer = a;
       count = (m, omega (arith, laid_count k b l), laid_length k b l ∙ ap₂ message_length (sym c.from-n.ensures) (sym m));
-      sound = head-sound k b h (λ i. (c.type-inv.bytes i).fits) (sym a);
+      sound = head-sound k b h (λ i. (c.type_inv.bytes i).fits) (sym a);
     }

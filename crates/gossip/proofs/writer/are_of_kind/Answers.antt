@@ -3,9 +3,9 @@ use Rattle.gossip.specs.Messages.{of_kind_state}
 use Rattle.gossip.proofs.Loops.{every_stop, every_more, every_all}
 use Rattle.gossip.proofs.writer.are_of_kind.Goals as goal
 
-pub returns-then-not-is-of-kind : goal.returns-then-not-is-of-kind
-returns-then-not-is-of-kind g c =
-    every_stop (λ e. of_kind_state g.L.Lattice.kind e.state) _ _ _ _ c.loop-entry-test.true (sym c.if-not-is-of-kind.ensures) c.loop-entry.invariant
+pub returns-then-not-is_of_kind : goal.returns-then-not-is_of_kind
+returns-then-not-is_of_kind g c =
+    every_stop (λ e. of_kind_state g.L.Lattice.kind e.state) _ _ _ _ c.loop-entry-test.true (sym c.if-not-is_of_kind.ensures) c.loop-entry.invariant
 
 pub loop-entry-preserved : goal.loop-entry-preserved
 loop-entry-preserved g c =

@@ -7,13 +7,13 @@ use Rattle.gossip.proofs.writer.put_entries.Goals as goal
 pub loop-i-init : goal.loop-i-init
 loop-i-init c = written_start (encode_entry c.args.n) (entry_length c.args.n) _ _ _
 
-pub overflow-add-at : goal.overflow-add-at
-overflow-add-at c =
+pub overflow_add-at : goal.overflow_add-at
+overflow_add-at c =
     let f = piece_within c.loop-i.i (length c.args.entries.now) (entry_length c.args.n) c.loop-i-test.true in
     omega arith
 
-pub put-entry-requires : goal.put-entry-requires
-put-entry-requires c =
+pub put_entry-requires : goal.put_entry-requires
+put_entry-requires c =
     let f = piece_within c.loop-i.i (length c.args.entries.now) (entry_length c.args.n) c.loop-i-test.true in
     record { few = c.requires.few; within = omega arith }
 

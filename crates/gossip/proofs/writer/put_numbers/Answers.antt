@@ -10,8 +10,8 @@ loop-i-init c = (sym (put_none c.args.at c.args.out.now), sym (add-zero c.args.a
 pub put-requires : goal.put-requires
 put-requires c = let w = total_within c.args.widths.now c.loop-i.i c.loop-i-test.true in omega arith
 
-pub overflow-add-place : goal.overflow-add-place
-overflow-add-place c = let w = total_within c.args.widths.now c.loop-i.i c.loop-i-test.true in omega arith
+pub overflow_add-place : goal.overflow_add-place
+overflow_add-place c = let w = total_within c.args.widths.now c.loop-i.i c.loop-i-test.true in omega arith
 
 pub loop-i-preserved : goal.loop-i-preserved
 loop-i-preserved c =

@@ -1,4 +1,4 @@
-use Rattle.std.proofs.Common.{◌≡◌, ◌+◌, ◌^◌, ◌<◌, true, ltb, [], ◌∷◌, ◌++◌, length, take, Ok, sym, refl, ap, ◌∙◌, arith, length-set}
+use Rattle.std.proofs.Common.{◌≡◌, ◌^◌, ◌<◌, true, ltb, [], ◌∷◌, ◌++◌, length, take, Ok, sym, refl, ap, ◌∙◌, arith, length-set}
 use Rattle.std.proofs.lemmas.List.{length-take-le, take_more_set}
 use Rattle.std.proofs.lemmas.Bool.{and_from, lt-ltb}
 use Rattle.gossip.specs.Contents.{contents, pushed, after}
@@ -6,8 +6,8 @@ use Rattle.gossip.specs.Messages.{sound}
 use Rattle.gossip.proofs.Sound.{sound_push, parts, head_to_parts}
 use Rattle.gossip.proofs.message.Gossip.push.Goals as goal
 
-pub invariant-of-self : goal.invariant-of-self
-invariant-of-self c =
+pub invariant_of-self : goal.invariant_of-self
+invariant_of-self c =
     let g = c.args.self.now in
     let e = c.args.entry in
     let es = take g.count g.entries in
@@ -15,10 +15,10 @@ invariant-of-self c =
     let m = take_more_set g.entries g.count e (omega arith) in
     let w = (head_to_parts g.head (parts record { head = g.head; entries = es } g.sound).head).wide in
     let b : c.args.entry.seat < 2 ^ 64 = omega arith in
-    let a = c.if-not-is-allowed.ensures in
-    let r = c.if-not-rises-to.ensures in
+    let a = c.if-not-is_allowed.ensures in
+    let r = c.if-not-rises_to.ensures in
     let s = sound_push g.head es e g.sound (omega arith) (sym r.answer) (and_from _ _ (lt-ltb _ _ b) (and_from _ _ (a.wide refl w) (sym a.answer))) in
-    (omega arith, (length-set g.entries g.count e ∙ g.room, (ap (λ xs. sound record { head = g.head; entries = xs }) m ∙ s, tt)))
+    record { few = omega arith; room = length-set g.entries g.count e ∙ g.room; sound = ap (λ xs. sound record { head = g.head; entries = xs }) m ∙ s }
 
 pub returns : goal.returns
 returns c =

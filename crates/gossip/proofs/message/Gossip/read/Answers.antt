@@ -22,10 +22,10 @@ module _ (k : Kind) (b : List ℕ) (bytes : Bytes b) where
   of_kind_lem (Ok g) e = (reads_sound k b (contents g) bytes (sym e)).1
   of_kind_lem (Err x) e = tt
 
-pub returns-in-err-head : goal.returns-in-err-head
-returns-in-err-head g c =
-    let p = err_from_is_err_and c.from-residual.result c.from-residual.ensures.1 in
-    rw (p.1, p.2) (record { answer = refused_head _ _ _ c.in-err-head.ensures.answer; spelling = tt; kind = tt })
+pub returns-in_err-head : goal.returns-in_err-head
+returns-in_err-head g c =
+    let p = err_from_is_err_and c.from_residual.result c.from_residual.ensures.1 in
+    rw (p.1, p.2) (record { answer = refused_head _ _ _ c.in_err-head.ensures.answer; spelling = tt; kind = tt })
 
 pub returns : goal.returns
 returns g c =
@@ -33,5 +33,5 @@ returns g c =
     let b = c.args.bytes.now in
     let h = c.in_ok-head.ensures in
     let a = c.read_entries.ensures ∙ with-head k b c.in_ok-head.head c.in_ok-head.count h.answer h.count.0 in
-    let bytes : Bytes b = λ i. (c.ok.bytes i).fits in
+    let bytes : Bytes b = λ i. (c.type_inv.bytes i).fits in
     record { answer = a; spelling = spelled k b bytes c.read_entries.result a; kind = of_kind_lem k b bytes c.read_entries.result a }

@@ -7,8 +7,8 @@ use Rattle.gossip.proofs.Puts.{take_put}
 use Rattle.gossip.proofs.Written.{message_fits, message_written, message_long}
 use Rattle.gossip.proofs.message.Gossip.spell.Goals as goal
 
-pub put-entries-requires : goal.put-entries-requires
-put-entries-requires g c =
+pub put_entries-requires : goal.put_entries-requires
+put_entries-requires g c =
     let few : c.args.self.now.head.n ≤ 7 = search rules in
     let count : length c.entries.result.now ≡ c.args.self.now.count
     = ap length c.entries.ensures.answer ∙ length-take-le _ _ (omega arith) in

@@ -1,4 +1,4 @@
-use Rattle.std.proofs.Common.{◌-◌, length, Ok, sym, ap}
+use Rattle.std.proofs.Common.{length, Ok, sym, ap}
 use Rattle.gossip.proofs.TimestampSteps.{padded_is, exact_length}
 use Rattle.gossip.proofs.timestamp.Timestamp.read.Goals as goal
 
