@@ -1,5 +1,7 @@
 // Calls for a host in C, on plain numbers and areas of memory: comparing timestamps, and reading messages.
 // Nothing is kept from call to call and nothing is allocated; host/seats.h has the declarations for C.
+#![tactic(auto)]
+
 mod outcome;
 mod reading;
 

@@ -1,4 +1,6 @@
 // Prints what gossip messages say. Each line of standard input spells one in hexadecimal; blank lines and notes, which begin with `#`, are skipped.
+#![tactic(auto)]
+
 mod input;
 mod kind;
 mod line;

@@ -1,4 +1,6 @@
 // Examples of what the other crates do, as tests: a crate that has tests of its own is proved twice, so the many stand here.
+#![tactic(auto)]
+
 #[cfg(test)]
 mod checkpoints;
 #[cfg(test)]

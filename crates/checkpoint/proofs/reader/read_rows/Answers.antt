@@ -29,7 +29,7 @@ loop-i-preserved c =
     let rows = map (timestamp_at c.args.n) (pieces (4 * c.args.n) c.loop-i.i c.args.bytes.now) in
     let w : c.loop-i.i * (4 * c.args.n) + 4 * c.args.n - c.loop-i.i * (4 * c.args.n) ≡ 4 * c.args.n = omega arith in
     let v : c.unwrap.result ≡ timestamp_at n (take s (drop (i * s) b))
-    = row_read _ _ _ _ c.unwrap.ensures c.read-bytes.ensures.answer ∙ ap (λ k. timestamp_at n (take k (drop (i * s) b))) w in
+    = row_read _ _ _ _ c.unwrap.ensures c.read_bytes.ensures.answer ∙ ap (λ k. timestamp_at n (take k (drop (i * s) b))) w in
     let more = ap (map (timestamp_at n)) (pieces_more s i b) ∙ map_push (timestamp_at n) (pieces s i b) (take s (drop (i * s) b)) in
     counted_more zero rows c.loop-i.rows i c.unwrap.result (omega arith) (length-map (pieces s i b) (timestamp_at n) ∙ length-pieces s i b) c.loop-i.invariant
     ∙ ap (λ x. (rows ++ x ∷ []) ++ replicate (7 - (i + 1)) zero) v ∙ ap (λ xs. xs ++ replicate (7 - (i + 1)) zero) (sym more)

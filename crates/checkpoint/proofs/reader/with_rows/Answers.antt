@@ -11,5 +11,5 @@ returns c =
     let b = c.args.bytes.now in
     let n = ap (λ (h : Head). h.n) c.head-n.ensures.answer in
     let long = c.if-bytes-n.false ∙ ap rows_length n in
-    let rows = c.read-rows.ensures ∙ ap (λ k. rows_at k b) n in
-    c.new.ensures.answer ∙ rows_joined m b c.read-rows.result c.head-n.ensures.sound (λ i. (c.type-inv.bytes i).fits) long rows
+    let rows = c.read_rows.ensures ∙ ap (λ k. rows_at k b) n in
+    c.new.ensures.answer ∙ rows_joined m b c.read_rows.result c.head-n.ensures.sound (λ i. (c.type_inv.bytes i).fits) long rows

@@ -14,8 +14,8 @@ use Rattle.checkpoint.proofs.Rows.{saved_parts}
 use Rattle.checkpoint.proofs.Written.{front_mid, saved_written}
 use Rattle.checkpoint.proofs.checkpoint.Checkpoint.write.Goals as goal
 
-pub put-rows-requires : goal.put-rows-requires
-put-rows-requires g c =
+pub put_rows-requires : goal.put_rows-requires
+put_rows-requires g c =
     let s = saved c.args.self.now in
     let h = c.args.self.now.message.head in
     let rows = c.args.self.now.rows in
@@ -36,9 +36,9 @@ returns g c =
     let front = front_mid c.args.self.now.rows _ _ n in
     let long : c.spell-at.result + rows_length c.head-n.result.n ≡ length (encode_saved k s)
     = (λ i. (c.spell-at.ensures.answer ∙ sound_long k s.message c.head-n.ensures.sound) i + rows_length (n i)) ∙ sym (saved_long k s sound) in
-    let rows : c.put-rows.new.out ≡ put_at c.spell-at.result (joined (encode_timestamp h.n) (take h.n c.args.self.now.rows)) c.spell-at.new.out
-    = c.put-rows.ensures.written ∙ (λ i. put_at c.spell-at.result (joined (encode_timestamp (n i)) (front i)) c.spell-at.new.out) in
-    let written : c.put-rows.new.out ≡ put_at 0 (encode_saved k s) c.args.out.now
+    let rows : c.put_rows.new.out ≡ put_at c.spell-at.result (joined (encode_timestamp h.n) (take h.n c.args.self.now.rows)) c.spell-at.new.out
+    = c.put_rows.ensures.written ∙ (λ i. put_at c.spell-at.result (joined (encode_timestamp (n i)) (front i)) c.spell-at.new.out) in
+    let written : c.put_rows.new.out ≡ put_at 0 (encode_saved k s) c.args.out.now
     = saved_written k s c.spell-at.result _ c.spell-at.new.out _ c.spell-at.ensures.answer (omega (arith, c.spell-at.ensures.fits, c.told-out)) c.spell-at.ensures.buffer rows in
     record {
       answer = long;

@@ -35,7 +35,7 @@ returns c =
     let i = c.loop-i.i in
     let e = every_all (λ r. under r.parts t.parts) rows i _ (omega arith) c.loop-i.invariant.0 in
     record {
-      answer = ap (λ (p : Bool × Bool). p.1) c.compare-over.ensures.answer ∙ ap (λ (r : Timestamp). under t.parts r.parts) c.row-of.ensures
+      answer = ap (λ (p : Bool × Bool). p.1) c.compare-over.ensures.answer ∙ ap (λ (r : Timestamp). under t.parts r.parts) c.row_of.ensures
           ∙ ap (λ b. b && under t.parts (row rows c.args.own).parts) e;
       wide = λ r w. sym (ap (every wide_timestamp) (take_all i rows (omega arith))) ∙ c.loop-i.invariant.1 w;
     }

@@ -17,4 +17,4 @@ unfolding contents
 returns c =
     let t = c.args.self.now in
     let h : spot (vec_items t.seats) c.args.seat < length (vec_items t.states) = search rules in
-    record { answer = found_at _ _ _ _ (level t) h (c.index.ensures ∙ ap (λ i. get_or (vec_items t.states) i c.index.result.now) c.index-of-i.ensures.answer) }
+    record { answer = found_at _ _ _ _ (level t) h (c.index.ensures ∙ ap (λ i. get_or (vec_items t.states) i c.index.result.now) c.index_of-i.ensures.answer) }

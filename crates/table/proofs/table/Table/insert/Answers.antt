@@ -28,9 +28,9 @@ insert-requires-2 c =
     omega (arith, place_le (vec_items t.seats) c.args.seat, t.seats.ok.0, t.few.1)
 
 -- there is room for one more, so that neither insertion fails
-pub invariant-of-self : goal.invariant-of-self
+pub invariant_of-self : goal.invariant_of-self
 unfolding contents
-invariant-of-self c =
+invariant_of-self c =
     let t = c.args.self.now in
     let k = c.insert.ensures.succeeds (omega (arith, t.room.0)) in
     let m = c.insert-2.ensures.succeeds (omega (arith, t.room.1, t.few.1)) in

@@ -16,8 +16,8 @@ use Rattle.table.proofs.table.Table.merge.Goals as goal
 size : (join : ℕ → ℕ → ℕ) (t : Table) (m : Gossip) (es : List Entry) → es ≡ (said m).entries → sound (said m) ≡ true → length (merge join (contents t) es) ≡ length (contents t) + fresh (contents t) es
 size join t m es e s = length-merge join (contents t) es (contents_rise t) (told_entries (said m) es e s).0
 
-pub overflow-add-len : goal.overflow-add-len
-overflow-add-len g c =
+pub overflow_add-len : goal.overflow_add-len
+overflow_add-len g c =
     let t = c.args.self.now in
     let es = c.entries-entries.result.now in
     let told = told_entries (said c.args.message.now) es c.entries-entries.ensures.answer c.entries-entries.ensures.sound in

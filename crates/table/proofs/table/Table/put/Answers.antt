@@ -13,5 +13,5 @@ returns-in-Some c =
     let n = length-put-found (contents t) c.args.seat c.args.state (contents_rise t) found in
     record {
       answer = accepted (put (contents t) c.args.seat c.args.state) (omega (arith, contents_few t));
-      after = c.state-mut.follows.holds c.args.state ∙ sym (put-found (contents t) c.args.seat c.args.state (contents_rise t) found);
+      after = c.state_mut.follows.holds c.args.state ∙ sym (put-found (contents t) c.args.seat c.args.state (contents_rise t) found);
     }

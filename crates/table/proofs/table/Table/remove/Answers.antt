@@ -11,8 +11,8 @@ remove-requires c = let t = c.args.self.now in omega (arith, c.requires, length-
 pub remove-requires-2 : goal.remove-requires-2
 remove-requires-2 c = let t = c.args.self.now in omega (arith, c.requires, length-contents t, t.few.1)
 
-pub invariant-of-self : goal.invariant-of-self
-invariant-of-self c =
+pub invariant_of-self : goal.invariant_of-self
+invariant_of-self c =
     let t = c.args.self.now in
     let p = c.remove.ensures in
     let q = c.remove-2.ensures in (
