@@ -1,8 +1,7 @@
 -- Seats beside their states: where a seat stands, and what a change, an insertion or a removal there makes of the entries.
-use Rattle.std.proofs.Common.{◌≡◌, ℕ, zero, suc, ◌<◌, ◌≤◌, Bool, true, false, cond, eqb, ltb, List, [], ◌∷◌, length, get_or, set, Some, None, Option, sym, refl, ap, ◌∙◌, ⊎_elim, arith, Bor}
-use Rattle.std.specs.List.{insert, remove}
+use Rattle.std.proofs.Common.{◌≡◌, ℕ, zero, suc, ◌<◌, ◌≤◌, Bool, true, false, cond, eqb, ltb, List, [], ◌∷◌, length, get_or, set, Some, None, Option, sym, refl, ap, ◌∙◌, ⊎_elim, arith, MutBor}
+use Rattle.std.specs.List.{IsItemAtMut, insert, remove}
 use Rattle.std.specs.Option.{option_map}
-use Rattle.std.specs.Slice.{IsGetResult}
 use Rattle.std.proofs.lemmas.List.Edits.{length-insert}
 use Rattle.std.proofs.lemmas.Bool.{lt-ltb, le-ltb, eq-eqb, ne_eqb, cases_Bool, eqb-true, ltb-true, ltb-false, cond-true, cond-false}
 use Rattle.gossip.specs.Messages.{rises, below, seats}
@@ -105,7 +104,7 @@ changed-at (v ∷ us) [] u w e = absurd (omega arith)
 changed-at (v ∷ us) (y ∷ ys) u w e =
     ⊎_elim (λ t. let q = eqb-true v u t in rw t (ap (λ n. entry n w ∷ paired us ys) q)) (λ t. rw t (ap (λ l. entry v y ∷ l) (changed-at us ys u w (omega arith)))) (cases_Bool (eqb v u))
 
-pub lent_at : (us : List ℕ) (xs : List State) (u i : ℕ) → length xs ≡ length us → i ≡ spot us u → (r : Option (Bor State)) → IsGetResult xs i i r → option_map (λ x. x.now) r ≡ find (paired us xs) u
+pub lent_at : (us : List ℕ) (xs : List State) (u i : ℕ) → length xs ≡ length us → i ≡ spot us u → (r : Option (MutBor State)) → IsItemAtMut xs i r → option_map (λ x. x.now) r ≡ find (paired us xs) u
 lent_at us xs u i e q None it = none_at us xs u e (let k = it.3 in omega arith)
 lent_at us xs u i e q (Some x) it = found_at us xs u x.now e (let k = it.3.0 in omega arith) (rw q at it.1)
 

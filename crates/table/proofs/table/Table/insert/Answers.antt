@@ -36,16 +36,13 @@ invariant_of-self c =
     let m = c.insert-2.ensures.succeeds (omega (arith, t.room.1, t.few.1)) in
     let n = c.insert.ensures.len ∙ cond-true _ _ _ k in
     let o = c.insert-2.ensures.len ∙ cond-true _ _ _ m in
-    let us = c.insert.ensures.items ∙ cond-true _ _ _ k in (
-      (omega (arith, t.room.0, c.insert.ensures.capacity), omega (arith, t.room.1, c.insert-2.ensures.capacity)),
-      (
-        (omega arith, omega (arith, t.few.1)),
-        (
-          ap rises us ∙ ap (λ i. rises (insert (vec_items t.seats) i c.args.seat)) c.place-i.ensures.answer ∙ rises_inserted _ _ _ c.args.state (level t) c.requires t.rising,
-          tt,
-        ),
-      ),
-    )
+    let us = c.insert.ensures.items ∙ cond-true _ _ _ k in
+    record {
+      room = (omega (arith, t.room.0, c.insert.ensures.capacity), omega (arith, t.room.1, c.insert-2.ensures.capacity));
+      few = (omega arith, omega (arith, t.few.1));
+      rising =
+          ap rises us ∙ ap (λ i. rises (insert (vec_items t.seats) i c.args.seat)) c.place-i.ensures.answer ∙ rises_inserted _ _ _ c.args.state (level t) c.requires t.rising;
+    }
 
 pub returns : goal.returns
 unfolding contents

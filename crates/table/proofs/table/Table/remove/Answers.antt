@@ -15,13 +15,12 @@ pub invariant_of-self : goal.invariant_of-self
 invariant_of-self c =
     let t = c.args.self.now in
     let p = c.remove.ensures in
-    let q = c.remove-2.ensures in (
-      (omega (arith, t.room.0, p.capacity), omega (arith, t.room.1, q.capacity)),
-      (
-        (omega (arith, t.few.0, p.len), omega (arith, t.few.1, p.len, q.len)),
-        (ap rises p.items ∙ rises_removed (vec_items t.seats) c.args.i t.rising, tt),
-      ),
-    )
+    let q = c.remove-2.ensures in
+    record {
+      room = (omega (arith, t.room.0, p.capacity), omega (arith, t.room.1, q.capacity));
+      few = (omega (arith, t.few.0, p.len), omega (arith, t.few.1, p.len, q.len));
+      rising = ap rises p.items ∙ rises_removed (vec_items t.seats) c.args.i t.rising;
+    }
 
 pub returns : goal.returns
 unfolding contents
