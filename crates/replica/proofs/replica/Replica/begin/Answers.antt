@@ -9,15 +9,15 @@ use Rattle.replica.proofs.MemoriesKept.{fresh-sound}
 use Rattle.replica.proofs.Taken.{of_parts, same_memory}
 use Rattle.replica.proofs.replica.Replica.begin.Goals as goal
 
-pub invariant-of-self : goal.invariant-of-self
-invariant-of-self c =
+pub invariant_of-self : goal.invariant_of-self
+invariant_of-self c =
     let p = c.args.membership in
     let z : c.zero-zero.result ≡ zero = of_parts _ _ c.zero-zero.ensures.answer in
-    let size = and_parts (leb 1 p.n) _ (sym c.is-size.ensures ∙ c.if-not-is-size.false) in
+    let size = and_parts (leb 1 p.n) _ (sym c.is_size.ensures ∙ c.if-not-is_size.false) in
     let some = leb-true 1 p.n size.0 in
     let most = leb-true p.n 7 size.1 in
     let group : p.group < 2 ^ 32 = search rules in
-    (ap (sound_memory p) (same_memory {c = 0} refl z c.clear.ensures.after (ap (replicate 7) z)) ∙ fresh-sound p (origin_whole _ _ some most c.if-membership.false) (lt-ltb _ _ group), tt)
+    record { sound = ap (sound_memory p) (same_memory {c = 0} refl z c.clear.ensures.after (ap (replicate 7) z)) ∙ fresh-sound p (origin_whole _ _ some most c.if-membership.false) (lt-ltb _ _ group) }
 
 pub returns : goal.returns
 unfolding memory
@@ -25,7 +25,7 @@ returns c =
     let p = c.args.membership in
     let z : c.zero-zero.result ≡ zero = of_parts _ _ c.zero-zero.ensures.answer in
     record {
-      answer = sym (passed (leb 1 p.n && leb p.n 7) 13 _ _ (sym c.is-size.ensures ∙ c.if-not-is-size.false) (passed _ 1 _ _ (lt-ltb _ _ c.if-membership.false) refl));
+      answer = sym (passed (leb 1 p.n && leb p.n 7) 13 _ _ (sym c.is_size.ensures ∙ c.if-not-is_size.false) (passed _ 1 _ _ (lt-ltb _ _ c.if-membership.false) refl));
       after = same_memory refl z c.clear.ensures.after (ap (replicate 7) z);
       member = refl;
     }

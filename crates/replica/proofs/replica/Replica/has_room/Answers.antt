@@ -11,4 +11,4 @@ returns-then-len-lt-ENTRIES c =
 pub returns-else-len-lt-ENTRIES : goal.returns-else-len-lt-ENTRIES
 returns-else-len-lt-ENTRIES c =
     let n = c.len.ensures.answer in
-    record { answer = λ x. c.is-some.ensures ∙ ap is_some c.find.ensures.answer ∙ sym (fits_full c.args.self.now.table c.args.seat x (omega arith)) }
+    record { answer = λ x. c.is_some.ensures ∙ ap is_some c.find.ensures.answer ∙ sym (fits_full c.args.self.now.table c.args.seat x (omega arith)) }

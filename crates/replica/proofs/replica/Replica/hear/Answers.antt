@@ -32,9 +32,9 @@ returns-then-under g c =
     let ours = head_ours k r.membership m t c.args.reading h e c.if-head-self.false c.if-head-self-2.false in
     record { step = took _ _ old m _ (hear-old k r.membership m t c.args.reading ours (compared m t h c.compare-under.result true e c.compare-under.ensures.answer c.if-under.true)) refl refl }
 
-pub returns-then-is-err : goal.returns-then-is-err
+pub returns-then-is_err : goal.returns-then-is_err
 unfolding memory
-returns-then-is-err g c =
+returns-then-is_err g c =
     let k = g.L.Lattice.kind in
     let r = c.args.self.now in
     let m = memory r in
@@ -43,15 +43,15 @@ returns-then-is-err g c =
     let e = c.head-head.ensures.answer in
     let ours = head_ours k r.membership m t c.args.reading h e c.if-head-self.false c.if-head-self-2.false in
     let news = compared m t h c.compare-under.result false e c.compare-under.ensures.answer c.if-under.false in
-    let no = c.if-is-err.ensures.negation in
+    let no = c.if-is_err.ensures.negation in
     record {
       step = refused _ _ 6 _ (hear-full k r.membership m t c.args.reading ours news (refused_fits c.merge-2.result _ c.merge-2.ensures.answer no))
           (same_memory refl refl (c.merge-2.ensures.after ∙ cond-false _ _ _ no) refl) refl;
     }
 
-pub invariant-of-self-2 : goal.invariant-of-self-2
+pub invariant_of-self-2 : goal.invariant_of-self-2
 unfolding memory
-invariant-of-self-2 g c =
+invariant_of-self-2 g c =
     let k = g.L.Lattice.kind in
     let r = c.args.self.now in
     let m = memory r in
@@ -59,11 +59,11 @@ invariant-of-self-2 g c =
     let h = c.head-head.result in
     let e = c.head-head.ensures.answer in
     let ours = head_ours k r.membership m t c.args.reading h e c.if-head-self.false c.if-head-self-2.false in
-    let ok = c.if-is-err.ensures.negation in (
-      ap (sound_memory r.membership) (learnt_is k r.membership m t c.args.reading h c.merge.new.self _ _ _ e c.merge.ensures.after c.max-self.ensures (c.merge-2.ensures.after ∙ cond-true _ _ _ ok) c.rows-with-rows.ensures.answer)
-          ∙ learnt-sound k r.membership m t c.args.reading r.sound c.head-head.ensures.sound ours c.requires (ok_fits c.merge-2.result _ c.merge-2.ensures.answer ok),
-      tt,
-    )
+    let ok = c.if-is_err.ensures.negation in
+    record {
+      sound = ap (sound_memory r.membership) (learnt_is k r.membership m t c.args.reading h c.merge.new.self _ _ _ e c.merge.ensures.after c.max-self.ensures (c.merge-2.ensures.after ∙ cond-true _ _ _ ok) c.rows_with-rows.ensures.answer)
+          ∙ learnt-sound k r.membership m t c.args.reading r.sound c.head-head.ensures.sound ours c.requires (ok_fits c.merge-2.result _ c.merge-2.ensures.answer ok);
+    }
 
 pub returns : goal.returns
 unfolding memory
@@ -76,8 +76,8 @@ returns g c =
     let e = c.head-head.ensures.answer in
     let ours = head_ours k r.membership m t c.args.reading h e c.if-head-self.false c.if-head-self-2.false in
     let news = compared m t h c.compare-under.result false e c.compare-under.ensures.answer c.if-under.false in
-    let ok = c.if-is-err.ensures.negation in
-    let same = learnt_is k r.membership m t c.args.reading h c.merge.new.self _ _ _ e c.merge.ensures.after c.max-self.ensures (c.merge-2.ensures.after ∙ cond-true _ _ _ ok) c.rows-with-rows.ensures.answer in
+    let ok = c.if-is_err.ensures.negation in
+    let same = learnt_is k r.membership m t c.args.reading h c.merge.new.self _ _ _ e c.merge.ensures.after c.max-self.ensures (c.merge-2.ensures.after ∙ cond-true _ _ _ ok) c.rows_with-rows.ensures.answer in
     let now = ap (λ (x : Memory). x.timestamp) same in
     let after = learnt k r.membership m t c.args.reading in
     record {

@@ -6,7 +6,7 @@ use Rattle.replica.specs.Contents.{memory}
 use Rattle.replica.specs.Memories.{message_of}
 use Rattle.replica.proofs.Telling.{told_more}
 use Rattle.replica.proofs.replica.Replica.message.Goals as goal
-use Rattle.replica.proofs.replica.Replica.message.Goals.{in-Some, in-default}
+use Rattle.replica.proofs.replica.Replica.message.Goals.{in-Some, in_default}
 
 pub loop-i-init : goal.loop-i-init
 unfolding memory
@@ -18,8 +18,8 @@ loop-i-preserved c =
     let r = c.args.self.now in
     elim c.match-entry.branch [
       | in-Some w ↦ ap said w.message-is ∙ told_more r.membership (memory r) r.sound c.loop-i.i w.in-Some.entry _ _ w.in-Some.ensures.answer c.loop-i.invariant w.push.ensures.after
-      | in-default w ↦ (
-          let past = past_entry (contents r.table) c.loop-i.i w.in-default.ensures.answer in
+      | in_default w ↦ (
+          let past = past_entry (contents r.table) c.loop-i.i w.in_default.ensures.answer in
           absurd (omega (arith, c.len-i-end.ensures.answer)))
     ]
 

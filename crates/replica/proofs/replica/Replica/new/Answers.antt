@@ -8,5 +8,5 @@ pub returns : goal.returns
 unfolding memory
 returns c =
     let z : c.zero-zero.result ≡ zero = of_parts _ _ c.zero-zero.ensures.answer in
-    let e = c.in-ok-table.ensures.answer in
+    let e = c.in_ok-table.ensures.answer in
     record { answer = (same_memory refl z e (ap (replicate 7) z), refl) }

@@ -14,9 +14,9 @@ refused_part true true e h q = absurd (let z : ◌≡◌ {A = ℕ} 0 1 = cc in o
 refused_part true false e h q = refl
 refused_part false small e h q = absurd (let z : ◌≡◌ {A = ℕ} 0 1 = cc in omega arith)
 
-pub returns-then-not-has-room : goal.returns-then-not-has-room
+pub returns-then-not-has_room : goal.returns-then-not-has_room
 unfolding memory
-returns-then-not-has-room c = record { answer = λ x. sym (failed _ 6 _ (sym (c.if-not-has-room.ensures.answer x))) }
+returns-then-not-has_room c = record { answer = λ x. sym (failed _ 6 _ (sym (c.if-not-has_room.ensures.answer x))) }
 
 pub returns-in-Ok : goal.returns-in-Ok
 unfolding memory
@@ -26,7 +26,7 @@ returns-in-Ok c =
     let b = unless_ok (ltb s.membership.replica 7) 1 _ _ (sym a) in
     let d = unless_ok (ltb (part s.timestamp.parts s.membership.replica) 4294967295) 7 _ _ b.1 in
     let t = of_parts c.bump.new.self _ c.in-Ok.ensures.after in
-    record { answer = λ x. sym (passed _ 6 _ _ (sym (c.if-not-has-room.ensures.answer x)) (passed _ 7 _ _ d.0 (ap Ok (sym t)))) }
+    record { answer = λ x. sym (passed _ 6 _ _ (sym (c.if-not-has_room.ensures.answer x)) (passed _ 7 _ _ d.0 (ap Ok (sym t)))) }
 
 pub returns-in-Err : goal.returns-in-Err
 unfolding memory
@@ -34,4 +34,4 @@ returns-in-Err c =
     let s = c.args.self.now in
     let h = memory_parts s.membership (memory s) s.sound in
     let small = refused_part (ltb s.membership.replica 7) _ _ (lt-ltb _ 7 (omega (arith, h.member, h.most))) c.in-Err.ensures.answer in
-    record { answer = λ x. sym (passed _ 6 _ _ (sym (c.if-not-has-room.ensures.answer x)) (failed _ 7 _ small)) }
+    record { answer = λ x. sym (passed _ 6 _ _ (sym (c.if-not-has_room.ensures.answer x)) (failed _ 7 _ small)) }

@@ -9,17 +9,17 @@ use Rattle.replica.specs.Restoring.{restored}
 use Rattle.replica.proofs.Restoring.{restores, loaded, restored_is}
 use Rattle.replica.proofs.replica.Replica.restore.Goals as goal
 
-pub invariant-of-self : goal.invariant-of-self
+pub invariant_of-self : goal.invariant_of-self
 unfolding memory
-invariant-of-self g c =
+invariant_of-self g c =
     let k = g.L.Lattice.kind in
     let p = c.args.self.now.membership in
     let b = c.args.bytes.now in
     let t = said c.message-message.result in
     let h = c.head-head.ensures in
     let es = loaded k.join t.entries (contents c.clear.new.self) (contents c.merge.new.self) c.merge.result c.clear.ensures.after (told_entries t t.entries refl h.sound) c.merge.ensures.answer c.merge.ensures.after in
-    let e = restored_is k p b (saved c.in-ok-checkpoint.checkpoint) t c.head-head.result _ _ c.in-ok-checkpoint.ensures.answer c.message-message.ensures.answer h.answer (sym c.if-not-is-own.ensures.answer) es c.rows-self.ensures.answer in
-    ((restores.reads_sound k p b _ (λ i. (c.type-inv.bytes i).fits) e).0, tt)
+    let e = restored_is k p b (saved c.in_ok-checkpoint.checkpoint) t c.head-head.result _ _ c.in_ok-checkpoint.ensures.answer c.message-message.ensures.answer h.answer (sym c.if-not-is_own.ensures.answer) es c.rows-self.ensures.answer in
+    record { sound = (restores.reads_sound k p b _ (λ i. (c.type_inv.bytes i).fits) e).0 }
 
 pub returns : goal.returns
 unfolding memory
@@ -27,11 +27,11 @@ returns g c =
     let k = g.L.Lattice.kind in
     let p = c.args.self.now.membership in
     let b = c.args.bytes.now in
-    let bytes : Bytes b = λ i. (c.type-inv.bytes i).fits in
+    let bytes : Bytes b = λ i. (c.type_inv.bytes i).fits in
     let t = said c.message-message.result in
     let h = c.head-head.ensures in
     let es = loaded k.join t.entries (contents c.clear.new.self) (contents c.merge.new.self) c.merge.result c.clear.ensures.after (told_entries t t.entries refl h.sound) c.merge.ensures.answer c.merge.ensures.after in
-    let e = restored_is k p b (saved c.in-ok-checkpoint.checkpoint) t c.head-head.result _ _ c.in-ok-checkpoint.ensures.answer c.message-message.ensures.answer h.answer (sym c.if-not-is-own.ensures.answer) es c.rows-self.ensures.answer in
+    let e = restored_is k p b (saved c.in_ok-checkpoint.checkpoint) t c.head-head.result _ _ c.in_ok-checkpoint.ensures.answer c.message-message.ensures.answer h.answer (sym c.if-not-is_own.ensures.answer) es c.rows-self.ensures.answer in
     record {
       answer = sym e;
       after = sym (ap (λ r. restored r (memory c.args.self.now)) e);

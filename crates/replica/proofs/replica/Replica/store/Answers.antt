@@ -20,8 +20,8 @@ within : (c : goal.After-max-self) → c.args.self.now.membership.replica < 7
 unfolding memory
 within c = let s = c.args.self.now in let h = memory_parts s.membership (memory s) s.sound in omega (arith, h.member, h.most)
 
-pub offset-bounds-self-self : goal.offset-bounds-self-self
-offset-bounds-self-self c = let h = within c in omega arith
+pub offset_bounds-self-self : goal.offset_bounds-self-self
+offset_bounds-self-self c = let h = within c in omega arith
 
 pub bounds-self-self : goal.bounds-self-self
 bounds-self-self c = within c
@@ -30,16 +30,16 @@ bounds-self-self c = within c
 left : (p : Membership) (m : Memory) (c u : ℕ) (x : State) (s : Timestamp) → raise p m u x ≡ Ok s → (r : Result (Unit {0}) Full) → outcome r ≡ if_fits (put m.entries u x) → is_ok r ≡ true
 left p m c u x s e r q = done r _ q (leb-true _ 64 (raise_ok p m c u x s e).0)
 
-pub invariant-of-self : goal.invariant-of-self
+pub invariant_of-self : goal.invariant_of-self
 unfolding memory
-invariant-of-self c =
+invariant_of-self c =
     let r = c.args.self.now in
     let m = memory r in
-    let ok = left r.membership m c.args.reading c.args.seat c.args.state c.args.raised c.requires.raised c.put.result c.put.ensures.answer in (
-      ap (sound_memory r.membership) (same_memory {s = c.args.raised} {rs = update r.rows r.membership.replica c.args.raised} c.max-self.ensures refl (c.put.ensures.after ∙ cond-true _ _ _ ok) refl)
-          ∙ change-sound r.membership m c.args.reading c.args.seat c.args.state c.args.raised r.sound c.requires.reading c.ranges.seat.fits c.requires.wide c.requires.allowed c.requires.raised,
-      tt,
-    )
+    let ok = left r.membership m c.args.reading c.args.seat c.args.state c.args.raised c.requires.raised c.put.result c.put.ensures.answer in
+    record {
+      sound = ap (sound_memory r.membership) (same_memory {s = c.args.raised} {rs = update r.rows r.membership.replica c.args.raised} c.max-self.ensures refl (c.put.ensures.after ∙ cond-true _ _ _ ok) refl)
+          ∙ change-sound r.membership m c.args.reading c.args.seat c.args.state c.args.raised r.sound c.requires.reading c.ranges.seat.fits c.requires.wide c.requires.allowed c.requires.raised;
+    }
 
 pub returns : goal.returns
 unfolding memory

@@ -17,15 +17,15 @@ unfolding step
 returns-then-reading-gt-LATEST c = record { step = λ k. refused _ _ 4 _ (failed _ 4 _ (lt-leb _ _ c.if-reading-gt-LATEST.true)) refl refl }
 
 -- what the table's sweep leaves, at the rule's clock and grace
-pub invariant-of-self : goal.invariant-of-self
+pub invariant_of-self : goal.invariant_of-self
 unfolding memory
-invariant-of-self c =
+invariant_of-self c =
     let r = c.args.self.now in
     let clock = c.max-clock.ensures in
     let grace = c.from.ensures in
     let whole : r.membership.n - 0 ≡ r.membership.n = omega arith in
     let entries = c.sweep-removed.ensures.after ∙ (λ i. entries.swept (grace i) (clock i) (take (whole i) r.rows) (contents r.table)) in
-    (ap (sound_memory r.membership) (same_memory {s = r.timestamp} {rs = r.rows} clock refl entries refl) ∙ swept-sound r.membership (memory r) c.args.reading r.sound (le-leb _ _ c.if-reading-gt-LATEST.false), tt)
+    record { sound = ap (sound_memory r.membership) (same_memory {s = r.timestamp} {rs = r.rows} clock refl entries refl) ∙ swept-sound r.membership (memory r) c.args.reading r.sound (le-leb _ _ c.if-reading-gt-LATEST.false) }
 
 pub returns : goal.returns
 unfolding memory step
