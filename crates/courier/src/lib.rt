@@ -1,4 +1,6 @@
 // A small client of a store and a transport, over any of either: it sends what is saved, and keeps what it takes. It shows what a program learns from the promises of `Store` and `Transport` alone, and is proved once for all of them.
+#![tactic(auto)]
+
 ghost use Rattle.std.specs.Prelude.{◌≡◌, [], length, if◌then◌else◌, Ok, Err, nat_le, slice_index_or};
 ghost use Rattle.storage.specs.declared.refusals.Refusal.TheVariants.{Number};
 ghost use Rattle.transport.specs.Parcels.{parcel, Kept, Posted};
@@ -16,7 +18,7 @@ pub fn send<S: Store, T: Transport>(
     to: usize,
     reading: u64,
 ) -> Result<(), transport::Refusal>
-    ensures answer { result ≡ post_answer (T.Transport.isOpen mail.old to reading) (T.Transport.longest mail.old) (length (slice_index_or (S.Store.saved store.old) number [])) }
+    ensures answer { result ≡ post_answer (T.Transport.is_open mail.old to reading) (T.Transport.longest mail.old) (length (slice_index_or (S.Store.saved store.old) number [])) }
     ensures lost { Posted (T.Transport.held mail.old) (taken result (parcel to (slice_index_or (S.Store.saved store.old) number []))) (T.Transport.held mail.new) }
     ensures kept { S.Store.saved store.new ≡ S.Store.saved store.old }
 {

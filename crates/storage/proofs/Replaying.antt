@@ -33,8 +33,8 @@ run_stop_at bytes at saved l h =
     run_stop (drop at bytes) saved (omega arith) (body_none (drop at bytes) (sym (ap body (take_rest bytes at)) ∙ h))
 
 -- a sound head stands there, and its bytes are saved
-pub run-step-at : (bytes : List ℕ) (at n : ℕ) (saved : List (List ℕ)) → Some n ≡ body (take (length bytes - at) (drop at bytes)) → run (drop at bytes) saved ≡ run (drop (at + (4 + n)) bytes) (set saved (get_or (take (length bytes - at) (drop at bytes)) 0 0) (take n (drop 4 (take (length bytes - at) (drop at bytes)))))
-run-step-at bytes at n saved h =
+pub run_step_at : (bytes : List ℕ) (at n : ℕ) (saved : List (List ℕ)) → Some n ≡ body (take (length bytes - at) (drop at bytes)) → run (drop at bytes) saved ≡ run (drop (at + (4 + n)) bytes) (set saved (get_or (take (length bytes - at) (drop at bytes)) 0 0) (take n (drop 4 (take (length bytes - at) (drop at bytes)))))
+run_step_at bytes at n saved h =
     let r = take_rest bytes at in
     let b = body_some (drop at bytes) n (h ∙ ap body r) in
     run_step (drop at bytes) saved b.0
@@ -43,8 +43,8 @@ run-step-at bytes at n saved h =
     ∙ ap (λ z. run (drop (at + (4 + n)) bytes) (set saved (get_or z 0 0) (take n (drop 4 z)))) (sym r)
 
 -- such bytes end within what is read, and are as many as their head says
-pub fits-at : (bytes : List ℕ) (at n : ℕ) → at < length bytes → Some n ≡ body (take (length bytes - at) (drop at bytes)) → (at + (4 + n) ≤ length bytes) × (length (take n (drop 4 (take (length bytes - at) (drop at bytes)))) ≡ n)
-fits-at bytes at n l h =
+pub fits_at : (bytes : List ℕ) (at n : ℕ) → at < length bytes → Some n ≡ body (take (length bytes - at) (drop at bytes)) → (at + (4 + n) ≤ length bytes) × (length (take n (drop 4 (take (length bytes - at) (drop at bytes)))) ≡ n)
+fits_at bytes at n l h =
     let r = take_rest bytes at in
     let b = body_some (drop at bytes) n (h ∙ ap body r) in
     let f = sound-front (drop at bytes) b.0 in

@@ -8,8 +8,8 @@ use Rattle.storage.specs.Logs.{put_at}
 pub put_mid-put_at : (at n : ℕ) (o xs : List ℕ) → length xs ≡ n → put_mid at n o xs ≡ put_at at xs o
 put_mid-put_at at n o xs l = ap (λ z. take at o ++ (xs ++ z)) (drop-drop n at o ∙ ap (λ k. drop (at + k) o) (sym l))
 
-pub length-put-at : (at : ℕ) (xs o : List ℕ) → at + length xs ≤ length o → length (put_at at xs o) ≡ length o
-length-put-at at xs o l = simp (length-append, length-take, length-drop) (omega arith)
+pub length-put_at : (at : ℕ) (xs o : List ℕ) → at + length xs ≤ length o → length (put_at at xs o) ≡ length o
+length-put_at at xs o l = simp (length-append, length-take, length-drop) (omega arith)
 
 -- what lies before stays
 pub take-put_before : (n at : ℕ) (xs o : List ℕ) → n ≤ at → at ≤ length o → take n (put_at at xs o) ≡ take n o
@@ -29,7 +29,7 @@ take-add m n xs l =
 -- a first write that a second behind it leaves
 pub take-put_kept : (at n k : ℕ) (xs ys o : List ℕ) → at + length xs ≡ k → length xs ≡ n → k ≤ length o → take n (drop at (put_at k ys (put_at at xs o))) ≡ xs
 take-put_kept at n k xs ys o e l b =
-    let p = length-put-at at xs o (omega arith) in
+    let p = length-put_at at xs o (omega arith) in
     sym (drop-take at n (put_at k ys (put_at at xs o)))
     ∙ ap (drop at) (take-put_before (at + n) k ys (put_at at xs o) (omega arith) (omega arith))
     ∙ drop-take at n (put_at at xs o)

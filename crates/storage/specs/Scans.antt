@@ -1,5 +1,5 @@
 -- A log that is read from the front: one head and its bytes, several, and a log that grows at its end.
-use Rattle.std.specs.Prelude.{◌≡◌, ℕ, zero, suc, ◌+◌, ◌-◌, ◌*◌, ◌/◌, ◌%◌, ◌<◌, ◌≤◌, true, false, cond, leb, List, [], ◌++◌, length, take, drop, set, replicate, is_some as option_is_some, Some, None, Option, ◌==◌, nat_le, slice_index, slice_index_or, slice_set, refl}
+use Rattle.std.specs.Prelude.{◌≡◌, ℕ, zero, suc, ◌+◌, ◌-◌, ◌*◌, ◌/◌, ◌%◌, ◌<◌, ◌≤◌, true, false, cond, leb, List, [], ◌++◌, length, take, drop, set, replicate, is_some, Some, None, Option, ◌==◌, nat_le, slice_index, slice_index_or, slice_set, refl}
 use Rattle.std.proofs.Common.{sym, ap, ◌∙◌, ⊎_elim, arith, length-append, length-drop}
 use Rattle.std.proofs.lemmas.List.{drop-append-le, take-append-le, get_or_append_left, nil_from_length, drop_all, take_all}
 use Rattle.std.proofs.lemmas.Bool.{cases_Bool, le-leb, eq-eqb, ne_eqb, eqb-true, cond-true, cond-false}
@@ -40,8 +40,8 @@ front-sound log f =
 abbrev pub rest : List ℕ → List ℕ
 rest log = drop (4 + size log) log
 
-abbrev pub with-front : List ℕ → List (List ℕ) → List (List ℕ)
-with-front log saved = slice_set saved (slice_index log 0) (take (size log) (drop 4 log))
+abbrev pub with_front : List ℕ → List (List ℕ) → List (List ℕ)
+with_front log saved = slice_set saved (slice_index log 0) (take (size log) (drop 4 log))
 
 -- a whole log, with as many steps as it has bytes
 abbrev pub run : List ℕ → List (List ℕ) → Option (List (List ℕ))
@@ -52,18 +52,18 @@ unfolding scan
 scan_end zero log saved e = let t = eq-eqb (length log) 0 e in rw t
 scan_end (suc f) log saved e = let t = eq-eqb (length log) 0 e in rw t
 
-scan_step : (f : ℕ) (log : List ℕ) (saved : List (List ℕ)) → 0 < length log → sound log ≡ true → scan (suc f) log saved ≡ scan f (rest log) (with-front log saved)
+scan_step : (f : ℕ) (log : List ℕ) (saved : List (List ℕ)) → 0 < length log → sound log ≡ true → scan (suc f) log saved ≡ scan f (rest log) (with_front log saved)
 unfolding scan
 scan_step f log saved l h =
-    cond-false (length log == 0) (Some saved) (cond (sound log) (scan f (rest log) (with-front log saved)) None) (ne_eqb (length log) 0 (omega arith))
-    ∙ cond-true (sound log) (scan f (rest log) (with-front log saved)) None h
+    cond-false (length log == 0) (Some saved) (cond (sound log) (scan f (rest log) (with_front log saved)) None) (ne_eqb (length log) 0 (omega arith))
+    ∙ cond-true (sound log) (scan f (rest log) (with_front log saved)) None h
 
 scan_stop : (f : ℕ) (log : List ℕ) (saved : List (List ℕ)) → 0 < length log → sound log ≡ false → scan f log saved ≡ None
 unfolding scan
 scan_stop zero log saved l h = cond-false (length log == 0) (Some saved) None (ne_eqb (length log) 0 (omega arith))
 scan_stop (suc f) log saved l h =
-    cond-false (length log == 0) (Some saved) (cond (sound log) (scan f (rest log) (with-front log saved)) None) (ne_eqb (length log) 0 (omega arith))
-    ∙ cond-false (sound log) (scan f (rest log) (with-front log saved)) None h
+    cond-false (length log == 0) (Some saved) (cond (sound log) (scan f (rest log) (with_front log saved)) None) (ne_eqb (length log) 0 (omega arith))
+    ∙ cond-false (sound log) (scan f (rest log) (with_front log saved)) None h
 
 -- more steps than bytes change nothing
 scan_enough : (f g : ℕ) (log : List ℕ) (saved : List (List ℕ)) → length log ≤ f → length log ≤ g → scan f log saved ≡ scan g log saved
@@ -76,20 +76,20 @@ scan_enough (suc f) (suc g) log saved l k =
     let d = length-drop (4 + size log) log in
     let a : length (rest log) ≤ f = omega arith in
     let b : length (rest log) ≤ g = omega arith in
-    ⊎_elim (λ h. scan_step f log saved some h ∙ scan_enough f g (rest log) (with-front log saved) a b ∙ sym (scan_step g log saved some h)) (λ h. scan_stop (suc f) log saved some h ∙ sym (scan_stop (suc g) log saved some h)) (cases_Bool (sound log))) (cases_Bool (length log == 0))
+    ⊎_elim (λ h. scan_step f log saved some h ∙ scan_enough f g (rest log) (with_front log saved) a b ∙ sym (scan_step g log saved some h)) (λ h. scan_stop (suc f) log saved some h ∙ sym (scan_stop (suc g) log saved some h)) (cases_Bool (sound log))) (cases_Bool (length log == 0))
 
 -- nothing is left
 pub run_end : (log : List ℕ) (saved : List (List ℕ)) → length log ≡ 0 → run log saved ≡ Some saved
 run_end log saved e = scan_end (length log) log saved e
 
 -- the front is sound
-pub run_step : (log : List ℕ) (saved : List (List ℕ)) → sound log ≡ true → run log saved ≡ run (rest log) (with-front log saved)
+pub run_step : (log : List ℕ) (saved : List (List ℕ)) → sound log ≡ true → run log saved ≡ run (rest log) (with_front log saved)
 run_step log saved h =
     let w = (sound-front log h).whole in
     let d = length-drop (4 + size log) log in
     scan_enough (length log) (suc (length log)) log saved (omega arith) (omega arith)
     ∙ scan_step (length log) log saved (omega arith) h
-    ∙ scan_enough (length log) (length (rest log)) (rest log) (with-front log saved) (omega arith) (omega arith)
+    ∙ scan_enough (length log) (length (rest log)) (rest log) (with_front log saved) (omega arith) (omega arith)
 
 -- the front is not
 pub run_stop : (log : List ℕ) (saved : List (List ℕ)) → 0 < length log → sound log ≡ false → run log saved ≡ None
@@ -124,7 +124,7 @@ rest-append log more f =
     let v = f.whole in
     ap (λ n. drop (4 + n) (log ++ more)) s ∙ drop-append-le (4 + size log) log more (omega arith)
 
-with_append : (log more : List ℕ) (saved : List (List ℕ)) → Front log → with-front (log ++ more) saved ≡ with-front log saved
+with_append : (log more : List ℕ) (saved : List (List ℕ)) → Front log → with_front (log ++ more) saved ≡ with_front log saved
 with_append log more saved f =
     let p = front-append log more f in
     let w = f.within in
@@ -152,9 +152,9 @@ run-append (suc f) log more saved found l h =
     let d = length-drop (4 + size log) log in
     let small : length (rest log) ≤ f = omega arith in
     run_step (log ++ more) saved (front-sound (log ++ more) (front-append log more fr).2)
-    ∙ ap (λ z. run z (with-front (log ++ more) saved)) (rest-append log more fr)
+    ∙ ap (λ z. run z (with_front (log ++ more) saved)) (rest-append log more fr)
     ∙ ap (run (rest log ++ more)) (with_append log more saved fr)
-    ∙ run-append f (rest log) more (with-front log saved) found small (sym (run_step log saved b) ∙ h)) (λ b.
+    ∙ run-append f (rest log) more (with_front log saved) found small (sym (run_step log saved b) ∙ h)) (λ b.
     let e : None ≡ Some found = sym (run_stop log saved some b) ∙ h in
     let no : ◌≡◌ {A = ℕ} 0 1 = cc in
     absurd (omega arith)) (cases_Bool (sound log))) (cases_Bool (length log == 0))
@@ -166,8 +166,8 @@ run_one k bs saved a b d =
     let fr : Front (head k (length bs) ++ bs) = record { whole = omega arith; known = a; zeroed = refl; some = omega arith; fits = omega arith; within = omega arith } in
     let r : rest (head k (length bs) ++ bs) ≡ [] = drop_all (4 + size (head k (length bs) ++ bs)) (head k (length bs) ++ bs) (omega arith) in
     run_step (head k (length bs) ++ bs) saved (front-sound (head k (length bs) ++ bs) fr)
-    ∙ ap (λ z. run z (with-front (head k (length bs) ++ bs) saved)) r
-    ∙ run_end [] (with-front (head k (length bs) ++ bs) saved) refl
+    ∙ ap (λ z. run z (with_front (head k (length bs) ++ bs) saved)) r
+    ∙ run_end [] (with_front (head k (length bs) ++ bs) saved) refl
     ∙ ap (λ z. Some (slice_set saved k z)) (ap (λ n. take n bs) s ∙ take_all (length bs) bs (omega arith))
 
 -- what a reader finds in a log that is not too long, and in no other
@@ -191,9 +191,9 @@ pub read_nothing : read_log [] ≡ Some (replicate 7 [])
 read_nothing = read_run [] (omega arith) ∙ run_end [] (replicate 7 []) refl
 
 -- an option that holds something holds what stands for it
-pub some_is : {X : Type 0} (o : Option X) (d x : X) → option_is_some o ≡ true → or_else o d ≡ x → o ≡ Some x
+pub some_is : {X : Type 0} (o : Option X) (d x : X) → is_some o ≡ true → or_else o d ≡ x → o ≡ Some x
 some_is (Some y) d x h e = ap Some e
 some_is None d x h e = let no : ◌≡◌ {A = ℕ} 0 1 = cc in absurd (omega arith)
 
-pub is_some : {X : Type 0} (o : Option X) (d x : X) → o ≡ Some x → (option_is_some o ≡ true) × (or_else o d ≡ x)
-is_some o d x e = (ap option_is_some e, ap (λ p. or_else p d) e)
+pub is_some_lem : {X : Type 0} (o : Option X) (d x : X) → o ≡ Some x → (is_some o ≡ true) × (or_else o d ≡ x)
+is_some_lem o d x e = (ap is_some e, ap (λ p. or_else p d) e)

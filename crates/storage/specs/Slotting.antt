@@ -22,5 +22,5 @@ slots_lawful s =
       short = slots_short (vec_items s.slots);
     }
 
-pub bytes-at : (ss : List Slot) (k : ℕ) (s : Slot) → k < length ss → s ≡ slice_index_or ss k s → slice_index_or (map bytes_of ss) k [] ≡ bytes_of s
-bytes-at ss k s lt e = get_or-map bytes_of ss k s [] lt ∙ ap bytes_of (sym e)
+pub bytes_at : (ss : List Slot) (k : ℕ) (s : Slot) → k < length ss → s ≡ slice_index_or ss k s → slice_index_or (map bytes_of ss) k [] ≡ bytes_of s
+bytes_at ss k s lt e = get_or-map bytes_of ss k s [] lt ∙ ap bytes_of (sym e)

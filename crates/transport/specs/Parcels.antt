@@ -12,7 +12,7 @@
 -- Lawful held longest next    what every transport keeps
 use Rattle.std.specs.Prelude.{◌≡◌, ℕ, suc, ◌≤◌, Bool, cond, ◌&&◌, List, [], ◌∷◌, ◌++◌, length, Some, None, Option, ◌==◌, nat_le}
 use mathlib.Core.List.{Sublistᴰ}
-use Rattle.std.specs.List.{ContainsAt as Has, AllByRecursion as All}
+use Rattle.std.specs.List.{ContainsAt as Has, AllByRecursion}
 
 pub record Parcel : Type 0 where
   pub to : ℕ
@@ -34,7 +34,7 @@ abbrev pub sized : ℕ → ℕ → Bool
 sized most n = nat_le 1 n && nat_le n most
 
 abbrev pub Fit : ℕ → List Parcel → Type 0
-Fit most = All (λ p. (1 ≤ length p.bytes) × (length p.bytes ≤ most))
+Fit most = AllByRecursion (λ p. (1 ≤ length p.bytes) × (length p.bytes ≤ most))
 
 abbrev pub measured : List ℕ → Option ℕ
 measured [] = None

@@ -14,13 +14,13 @@ pub trait Transport {
 
     ghost longest: { Self → ℕ };
 
-    ghost isOpen: { Self → ℕ → ℕ → Bool };
+    ghost is_open: { Self → ℕ → ℕ → Bool };
 
     ghost next: { Self → ℕ → ℕ → List ℕ };
 
     // Takes a message in behind all others. It is refused exactly where its length is 0 or above the longest, and else where the transport is not open.
     fn post(&mut self, to: usize, reading: u64, bytes: &[u8]) -> Result<(), Refusal>
-        ensures answer { result ≡ post_answer (isOpen self.old to reading) (longest self.old) (length bytes.now) }
+        ensures answer { result ≡ post_answer (is_open self.old to reading) (longest self.old) (length bytes.now) }
         ensures lost { Posted (held self.old) (taken result (parcel to bytes.now)) (held self.new) }
         ensures kept { longest self.new ≡ longest self.old };
 

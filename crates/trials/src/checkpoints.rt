@@ -4,6 +4,7 @@ use checkpoint::Unreadable;
 use gossip::{Counts, Lattice, Ports, ROOM, Refusal};
 use replica::{Lookup, Membership, Replica};
 use std::alloc::Global;
+use std::fmt::Display;
 use std::process::Abort;
 use std::test::Fail;
 
@@ -100,18 +101,19 @@ fn a_checkpoint_is_as_long_as_the_format_says(rt: HostRuntime) -> Result<(), Fai
     Ok(())
 }
 
-// The bytes are refused for this reason, and the replica is as it was.
+// The bytes are refused for this reason, and the replica is as it was. A failure names the case.
 fn check_refused(
     rt: &impl Abort,
     replica: &mut Replica,
     bytes: &[u8],
     reason: Unreadable,
+    case: &impl Display,
 ) -> Result<(), Fail> {
     let before = replica.checkpoint();
     let membership = replica.membership();
-    assert_eq!(rt; replica.restore::<Counts>(bytes), Err(reason));
+    assert_eq!(rt; replica.restore::<Counts>(bytes), Err(reason), "{case}");
     assert_eq!(rt; reason.number(), 29);
-    assert_eq!(rt; replica.membership(), membership);
+    assert_eq!(rt; replica.membership(), membership, "{case}");
     check_is(rt, replica, &before);
     Ok(())
 }
@@ -129,9 +131,13 @@ fn try_changes(
         assert!(rt; place < ROOM);
         assert!(rt; len <= ROOM);
         room[place] = byte;
-        check_refused(rt, replica, &room[0..len], reason).note(format_args!(
-            "{byte} at {place}, {len} bytes"
-        ))?;
+        check_refused(
+            rt,
+            replica,
+            &room[0..len],
+            reason,
+            &format_args!("{byte} at {place}, {len} bytes"),
+        )?;
         assert_eq!(rt; reason.carried(), carried);
     }
     Ok(())
@@ -202,9 +208,13 @@ fn a_checkpoint_of_another_replica_group_or_n_is_refused(rt: HostRuntime) -> Res
     for (n, own, group) in [(2, 1, 7), (2, 0, 8), (1, 0, 7), (3, 0, 7), (3, 1, 8)] {
         begin(&mut replica, n, own, group)?;
         replica.enter::<Counts>(1, 9, 50, 50)?;
-        check_refused(&rt, &mut replica, &room[0..104], Unreadable::Owner).note(format_args!(
-            "replica {own} of {n} of group {group}"
-        ))?;
+        check_refused(
+            &rt,
+            &mut replica,
+            &room[0..104],
+            Unreadable::Owner,
+            &format_args!("replica {own} of {n} of group {group}"),
+        )?;
     }
     Ok(())
 }

@@ -74,7 +74,7 @@ fn a_message_is_read_back_as_it_was(rt: HostRuntime) -> Result<(), Fail> {
     let again = Gossip::read::<Counts>(&out[0..len])?;
     assert_eq!(rt; again.head(), first);
     assert_eq!(rt;
-        again.entries() == &[value(8, 4_294_967_295), tombstone],
+        again.entries() == [value(8, 4_294_967_295), tombstone].as_slice(),
         true
     );
     assert_eq!(rt;
@@ -161,7 +161,7 @@ fn an_entry_that_cannot_be_written_is_refused(rt: HostRuntime) -> Result<(), Fai
         Err(Refusal::Mark)
     );
     assert_eq!(rt;
-        message.entries() == &[value(5, 0)],
+        message.entries() == [value(5, 0)].as_slice(),
         true,
         "a refusal changes nothing"
     );

@@ -52,7 +52,7 @@ fn bumps_up_to_the_largest_part(rt: HostRuntime) -> Result<(), Fail> {
 #[test]
 fn reads_exactly_n_parts(rt: HostRuntime) -> Result<(), Fail> {
     assert_eq!(rt;
-        Timestamp::read(1, &[5])?.prefix(7) == &[5, 0, 0, 0, 0, 0, 0],
+        Timestamp::read(1, &[5])?.prefix(7) == [5, 0, 0, 0, 0, 0, 0].as_slice(),
         true
     );
     assert_eq!(rt; Timestamp::read(0, &[]), Err(Refusal::Parts));

@@ -18,7 +18,7 @@ impl<T: Transport> Transport for Expiring<T> {
 
     ghost longest = { λ e. T.Transport.longest e.below - 8 };
 
-    ghost isOpen = { λ e. T.Transport.isOpen e.below };
+    ghost is_open = { λ e. T.Transport.is_open e.below };
 
     ghost next = { λ e to reading. fresh e.grace reading (T.Transport.next e.below to reading) };
 
@@ -26,7 +26,7 @@ impl<T: Transport> Transport for Expiring<T> {
 
     // Posts below with the reading in front.
     fn post(&mut self, to: usize, reading: u64, bytes: &[u8]) -> Result<(), Refusal>
-        ensures answer { result ≡ post_answer (T.Transport.isOpen self.old.below to reading) (T.Transport.longest self.old.below - 8) (length bytes.now) }
+        ensures answer { result ≡ post_answer (T.Transport.is_open self.old.below to reading) (T.Transport.longest self.old.below - 8) (length bytes.now) }
         ensures lost { Posted (untimed (T.Transport.held self.old.below)) (taken result (parcel to bytes.now)) (untimed (T.Transport.held self.new.below)) }
         ensures kept { T.Transport.longest self.new.below - 8 ≡ T.Transport.longest self.old.below - 8 }
         ensures timed { Posted (T.Transport.held self.old.below) (taken result (parcel to (eight reading ++ bytes.now))) (T.Transport.held self.new.below) }

@@ -15,7 +15,7 @@ impl Transport for Mailbox {
 
     ghost longest = { most };
 
-    ghost isOpen = { λ m _ _. free m };
+    ghost is_open = { λ m _ _. free m };
 
     ghost next = { λ m to _. oldest to (parcels m) };
 

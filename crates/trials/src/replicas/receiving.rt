@@ -6,21 +6,24 @@ use super::{
 };
 use gossip::{Counts, Gossip, Head, ROOM, Timestamp};
 use replica::Replica;
+use std::fmt::Display;
 use std::process::Abort;
 use std::test::Fail;
 
-// The bytes are received, with this answer, and the replica is set back.
+// The bytes are received, with this answer, and the replica is set back. A failure names the case.
 fn try_bytes(
     rt: &impl Abort,
     replica: &mut Replica,
     bytes: &[u8],
     reading: u64,
     answer: Answer,
+    case: &impl Display,
 ) -> Result<(), Fail> {
     let before = replica.checkpoint();
     assert_eq!(rt;
         of_receipt(replica.receive_bytes::<Counts>(bytes, reading)),
-        answer
+        answer,
+        "{case}"
     );
     if !has_changed(answer) {
         check_is(rt, replica, &before);
@@ -28,18 +31,20 @@ fn try_bytes(
     put_back::<Counts>(rt, replica, &before)
 }
 
-// The message is received, as it is and as bytes, with this answer, and the replica is set back.
+// The message is received, as it is and as bytes, with this answer, and the replica is set back. A failure names the case.
 fn try_message(
     rt: &impl Abort,
     replica: &mut Replica,
     message: &Gossip,
     reading: u64,
     answer: Answer,
+    case: &impl Display,
 ) -> Result<(), Fail> {
     let before = replica.checkpoint();
     assert_eq!(rt;
         of_receipt(replica.receive::<Counts>(message, reading)),
-        answer
+        answer,
+        "{case}"
     );
     if !has_changed(answer) {
         check_is(rt, replica, &before);
@@ -48,7 +53,7 @@ fn try_message(
     let mut room = [0; ROOM];
     let len = message.write::<Counts>(&mut room)?;
     assert!(rt; len <= ROOM);
-    try_bytes(rt, replica, &room[0..len], reading, answer)
+    try_bytes(rt, replica, &room[0..len], reading, answer, case)
 }
 
 // A message without entries, of replica 0 of so many, with one part.
@@ -83,9 +88,14 @@ fn a_message_is_new_unless_it_is_at_or_under_the_timestamp(rt: HostRuntime) -> R
     ];
     for (first, second, reading, answer) in cases {
         let told = message((first, second), &[value(100, 9)])?;
-        try_message(&rt, &mut replica, &told, reading, answer).note(format_args!(
-            "{first}, {second} at {reading}"
-        ))?;
+        try_message(
+            &rt,
+            &mut replica,
+            &told,
+            reading,
+            answer,
+            &format_args!("{first}, {second} at {reading}"),
+        )?;
     }
     Ok(())
 }
@@ -108,9 +118,14 @@ fn a_message_of_another_group_or_n_is_refused(rt: HostRuntime) -> Result<(), Fai
     ];
     for (group, n, part, reading, answer) in cases {
         let told = message_from(group, n, part)?;
-        try_message(&rt, &mut replica, &told, reading, answer).note(format_args!(
-            "group {group}, n {n}, part {part}"
-        ))?;
+        try_message(
+            &rt,
+            &mut replica,
+            &told,
+            reading,
+            answer,
+            &format_args!("group {group}, n {n}, part {part}"),
+        )?;
     }
     Ok(())
 }
@@ -131,9 +146,14 @@ fn a_message_that_would_make_65_entries_is_refused(rt: HostRuntime) -> Result<()
     for (held, from, to, part, answer) in cases {
         let mut replica = filled(rt.alloc(), (0, 2), held)?;
         let told = message_of_seats((0, part), from, to)?;
-        try_message(&rt, &mut replica, &told, 30, answer).note(format_args!(
-            "{held} held, {from} to {to} told"
-        ))?;
+        try_message(
+            &rt,
+            &mut replica,
+            &told,
+            30,
+            answer,
+            &format_args!("{held} held, {from} to {to} told"),
+        )?;
     }
     Ok(())
 }
@@ -152,9 +172,14 @@ fn try_changes(
         assert!(rt; place < ROOM);
         assert!(rt; len <= ROOM);
         room[place] = byte;
-        try_bytes(rt, replica, &room[0..len], reading, answer).note(format_args!(
-            "{byte} at {place}, {len} bytes"
-        ))?;
+        try_bytes(
+            rt,
+            replica,
+            &room[0..len],
+            reading,
+            answer,
+            &format_args!("{byte} at {place}, {len} bytes"),
+        )?;
     }
     Ok(())
 }

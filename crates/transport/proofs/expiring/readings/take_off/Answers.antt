@@ -13,12 +13,12 @@ returns c =
     let p = c.args.place.now in
     let bs = take n p in
     let long = length-take-le n p (omega arith) in
-    let posted : c.from-le-bytes-posted.result ≡ reading_of bs = c.from-le-bytes-posted.ensures ∙ sym (reading_take n p (omega arith)) in
-    let young : c.args.reading ≤ reading_of bs + c.args.grace = let on-time = c.if-is-late.ensures.answer in grind (arith, nat_tests, posted) in
+    let posted : c.from_le_bytes-posted.result ≡ reading_of bs = c.from_le_bytes-posted.ensures ∙ sym (reading_take n p (omega arith)) in
+    let young : c.args.reading ≤ reading_of bs + c.args.grace = let on-time = c.if-is_late.ensures.answer in grind (arith, nat_tests, posted) in
     let e = fresh_is c.args.grace c.args.reading bs (omega arith) young in
     let k : length (drop 8 bs) ≡ n - 8 = length-drop 8 bs ∙ ap (λ m. m - 8) long in
     let size = ap length e ∙ k in
     record {
       answer = measured_is _ _ size (omega arith);
-      place = ap (λ m. take m c.copy-within.new.self) size ∙ ap (take (n - 8)) c.copy-within.ensures.after ∙ moved_to_front n p (omega arith) (omega arith) ∙ sym e;
+      place = ap (λ m. take m c.copy_within.new.self) size ∙ ap (take (n - 8)) c.copy_within.ensures.after ∙ moved_to_front n p (omega arith) (omega arith) ∙ sym e;
     }

@@ -4,10 +4,10 @@ use Rattle.std.proofs.lemmas.List.{take_at}
 use Rattle.transport.specs.Parcels.{parcel}
 use Rattle.transport.proofs.mailbox.places.filled.Goals as goal
 
-pub invariant-of-result : goal.invariant-of-result
-invariant-of-result c = ((c.requires.some, c.requires.few), simp (length-append, length-drop) (omega (arith, ap length c.copy-from-slice.ensures.after)))
+pub invariant_of-result : goal.invariant_of-result
+invariant_of-result c = record { fits = (c.requires.some, c.requires.few); long = simp (length-append, length-drop) (omega (arith, ap length c.copy_from_slice.ensures.after)) }
 
 pub returns : goal.returns
 returns c =
-    let e = c.copy-from-slice.ensures.after in
+    let e = c.copy_from_slice.ensures.after in
     record { answer = ap (parcel c.args.to) (take_at _ _ _ (ap length e) ∙ e) }

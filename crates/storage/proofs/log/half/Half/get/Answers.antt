@@ -11,4 +11,4 @@ returns c =
     let p : Span = get_or h.index c.args.number (record { at = 0; len = 0 }) in
     let lt : c.args.number < length h.index = omega arith in
     let n : p.at + p.len - p.at ≡ p.len = omega arith in
-    record { answer = rw (n, c.in-use-log.ensures.answer) (sym (get_or-map (spanned (in_use h)) h.index c.args.number _ _ lt)) }
+    record { answer = rw (n, c.in_use-log.ensures.answer) (sym (get_or-map (spanned (in_use h)) h.index c.args.number _ _ lt)) }

@@ -1,6 +1,6 @@
 use Rattle.std.proofs.Common.{◌≡◌, ◌+◌, ◌-◌, length, get_or, take, drop, set, sym, ap, ◌∙◌, arith, length-drop}
 use Rattle.storage.specs.Halves.{contents}
-use Rattle.storage.proofs.Replaying.{fits-at, run_stop_at, run-step-at}
+use Rattle.storage.proofs.Replaying.{fits_at, run_stop_at, run_step_at}
 use Rattle.storage.specs.Scans.{read_run, read_long, run, run_end}
 use Rattle.storage.proofs.log.half.Half.replay.Goals as goal
 
@@ -12,9 +12,9 @@ loop-at-init c =
     let l = read_run c.args.bytes.now (omega arith) in
     (omega arith, c.clear.ensures.used, ap (run c.args.bytes.now) c.clear.ensures.after ∙ sym l)
 
-pub returns-in-default : goal.returns-in-default
-returns-in-default c =
-    let none = sym c.body-len.ensures.answer ∙ c.in-default.is in
+pub returns-in_default : goal.returns-in_default
+returns-in_default c =
+    let none = sym c.body_len.ensures.answer ∙ c.in_default.is in
     record { answer = sym c.loop-at.invariant.2 ∙ run_stop_at c.args.bytes.now c.loop-at.at (contents c.loop-at.self) (omega arith) none }
 
 pub loop-at-preserved : goal.loop-at-preserved
@@ -23,8 +23,8 @@ loop-at-preserved c =
     let at = c.loop-at.at in
     let n = c.in-Some.len in
     let rest = take (length c.args.bytes.now - c.loop-at.at) (drop c.loop-at.at c.args.bytes.now) in
-    let some = sym c.in-Some.is ∙ c.body-len.ensures.answer in
-    let fits = fits-at bytes at n (omega arith) some in
+    let some = sym c.in-Some.is ∙ c.body_len.ensures.answer in
+    let fits = fits_at bytes at n (omega arith) some in
     let whole : 4 + c.in-Some.len - 4 ≡ c.in-Some.len = omega arith in
     let long = ap (λ m. length (take m (drop 4 rest))) whole ∙ fits.1 in
     let used = c.append.ensures.used in
@@ -32,7 +32,7 @@ loop-at-preserved c =
     let saved = c.append.ensures.after ∙ ap (λ m. set (contents c.loop-at.self) (get_or rest 0 0) (take m (drop 4 rest))) whole in (
       fits.0,
       omega arith,
-      ap (run (drop (at + (4 + n)) bytes)) saved ∙ sym (run-step-at bytes at n (contents c.loop-at.self) some) ∙ c.loop-at.invariant.2,
+      ap (run (drop (at + (4 + n)) bytes)) saved ∙ sym (run_step_at bytes at n (contents c.loop-at.self) some) ∙ c.loop-at.invariant.2,
     )
 
 pub returns : goal.returns

@@ -4,8 +4,8 @@ use Rattle.transport.specs.ParcelsLemmas.{measured_some, measured_none}
 use Rattle.transport.specs.Timings.{untimed_kept}
 use Rattle.transport.proofs.expiring.carrying.ExpiringTransport.take.Goals as goal
 
-pub take-off-requires : goal.take-off-requires
-take-off-requires g c =
+pub take_off-requires : goal.take_off-requires
+take_off-requires g c =
     let next = g.T.Transport.next c.args.self.now.below c.args.to c.args.reading in
     let n = measured_some next c.in-Some.len c.in-Some.ensures.answer in
     let m = ap length c.take.ensures.place in
@@ -16,7 +16,7 @@ returns-in-Some g c =
     let next = g.T.Transport.next c.args.self.now.below c.args.to c.args.reading in
     let n = measured_some next c.in-Some.len c.in-Some.ensures.answer in
     let e : take c.in-Some.len c.take.new.place ≡ next = ap (λ k. take k c.take.new.place) n ∙ c.take.ensures.place in
-    let u = c.take-off.ensures in
+    let u = c.take_off.ensures in
     record {
       answer = rw (← e) u.answer;
       place = rw (← e) u.place;

@@ -11,7 +11,7 @@ pub returns-then-at-len : goal.returns-then-at-len
 unfolding parcels
 returns-then-at-len c =
     let ps = vec_items c.args.self.now.places in
-    let e = none_for c.args.to ps (λ k d lt. c.index-of-at.ensures.before k d (omega arith)) in
+    let e = none_for c.args.to ps (λ k d lt. c.index_of-at.ensures.before k d (omega arith)) in
     record { answer = rw e.0; place = rw e.0; lost = Sublistᴰ.refl _; kept = refl; exact = sym e.1 }
 
 pub returns : goal.returns
@@ -19,7 +19,7 @@ unfolding parcels
 returns c =
     let ps = vec_items c.args.self.now.places in
     let p = c.remove-found.result in
-    let e = first_for c.args.to ps c.index-of-at.result p (omega arith) c.index-of-at.ensures.before (c.index-of-at.ensures.found (omega arith) p) in
+    let e = first_for c.args.to ps c.index_of-at.result p (omega arith) c.index_of-at.ensures.before (c.index_of-at.ensures.found (omega arith) p) in
     let here = e.0 ∙ ap (λ q. (parcel_at q).bytes) (sym c.remove-found.ensures.value) in
     let n = ap length here ∙ length_at p in
     let exact = ap (map parcel_at) c.remove-found.ensures.by_index.2 ∙ sym e.1 in
