@@ -1,11 +1,11 @@
 -- What a call leaves in the caller's areas: what it says at their fronts, and their rests as they were; a refusal leaves all.
 --
--- front xs old    old with xs written over its front
--- after f r old   what an area holds after a call that says f of a message: over its front, unless it is refused
--- head_fields      n, sender, group number, clock and number of entries
--- head_parts       the sender's timestamp, n parts
--- entry_fields     an entry's seat, mark and word
--- entry_parts      its timestamp, n parts, all 0 for a value
+-- front xs old   old with xs written over its front
+-- after f r old  what an area holds after a call that says f of a message: over its front, unless it is refused
+-- head_fields    n, sender, group number, clock and number of entries
+-- head_parts     the sender's timestamp, n parts
+-- entry_fields   an entry's seat, mark and word
+-- entry_parts    its timestamp, n parts, all 0 for a value
 use Rattle.std.specs.Prelude.{ℕ, List, [], ◌∷◌, ◌++◌, length, take, drop, Ok, Err, Result, slice_index_or}
 use Rattle.gossip.specs.Format.{mark_of, timestamp_of, word_of}
 use Rattle.gossip.specs.Messages.{Message}

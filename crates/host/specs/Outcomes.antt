@@ -1,10 +1,10 @@
 -- What a call answers a host in C, as a number.
 --
--- number e     the number of what kept a call from doing anything
--- comparison   the pair of answers on two timestamps, as 1 and 2 added up; 8 where they are not of one length from 1 to 7
--- message_of    the message of a kind, given by its number, that bytes spell; or the refusal
--- room_for      a message, provided that the areas are large enough for it
--- code r       0, or the refusal's number
+-- number e    the number of what kept a call from doing anything
+-- comparison  the pair of answers on two timestamps, as 1 and 2 added up; 8 where they are not of one length from 1 to 7
+-- message_of  the message of a kind, given by its number, that bytes spell; or the refusal
+-- room_for    a message, provided that the areas are large enough for it
+-- code r      0, or the refusal's number
 use Rattle.std.specs.Prelude.{ℕ, ◌+◌, cond, ◌&&◌, List, length, Ok, Err, Result, ◌==◌, nat_le, nat_lt}
 use Rattle.gossip.specs.Format.{decode}
 use Rattle.gossip.specs.Lattices.{counts, ports}

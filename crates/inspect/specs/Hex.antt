@@ -1,8 +1,8 @@
 -- Hexadecimal digits, and the bytes that they spell.
 --
--- digit c          the value of a digit of either case, by its code
--- is_digit c        it is one
--- pairs cs         the bytes that digits spell, two to a byte
+-- digit c     the value of a digit of either case, by its code
+-- is_digit c  it is one
+-- pairs cs    the bytes that digits spell, two to a byte
 use Rattle.std.specs.Prelude.{ℕ, ◌+◌, ◌-◌, ◌*◌, Bool, cond, ◌&&◌, List, [], ◌∷◌, is_some, Some, None, Option, nat_le}
 use Rattle.std.specs.Option.{unwrap_or}
 

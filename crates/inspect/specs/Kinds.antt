@@ -1,8 +1,8 @@
 -- The kind of a message, as its own bytes name it.
 --
--- kind_of b       the kind that the second byte names; a message that names none is read as counts
--- lattice_of k    the kind as the message format speaks of it
--- nameless b     how a message is refused whose second byte is not the number of the kind that it is read as
+-- kind_of b     the kind that the second byte names; a message that names none is read as counts
+-- lattice_of k  the kind as the message format speaks of it
+-- nameless b    how a message is refused whose second byte is not the number of the kind that it is read as
 use Rattle.std.specs.Prelude.{ℕ, cond, List, length, Err, Result, ◌==◌, nat_le, slice_index}
 use Rattle.gossip.specs.Lattices as lattices
 use Rattle.gossip.specs.Messages.{Message}

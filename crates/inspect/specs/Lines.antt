@@ -1,13 +1,13 @@
 -- What a line of input is.
 --
--- line_end_at b     how many bytes stand before the first line end
--- trimmed l     a line without the carriage return at its end
--- spelled cs    the bytes that digits spell, or the first thing that is wrong with them
+-- line_end_at b  how many bytes stand before the first line end
+-- trimmed l      a line without the carriage return at its end
+-- spelled cs     the bytes that digits spell, or the first thing that is wrong with them
 -- line_of l      what a line is, or what is wrong with it
 -- bytes_of l     the bytes of the message on a line; any other line has none
--- Roomy x       a message on a line has at most 3,320 bytes
--- cause e       what is wrong with a line, in words
--- Decisive k    a line that was cut after 6,642 bytes, with k left of it, is what k is
+-- Roomy x        a message on a line has at most 3,320 bytes
+-- cause e        what is wrong with a line, in words
+-- Decisive k     a line that was cut after 6,642 bytes, with k left of it, is what k is
 use Rattle.std.specs.Prelude.{◌≡◌, ℕ, ◌+◌, ◌-◌, ◌%◌, ◌≤◌, cond, List, [], ◌∷◌, length, take, Ok, Err, codes, Result, ◌==◌, nat_le, slice_index}
 use Rattle.gossip.specs.Numbers.{every}
 use Rattle.inspect.specs.Hex.{is_digit, pairs}

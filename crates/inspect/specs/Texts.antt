@@ -1,6 +1,6 @@
 -- Messages as text.
 --
--- spaced ps         numbers in decimal, parted by one space
+-- spaced ps          numbers in decimal, parted by one space
 -- entry_text n e     an entry of a message among n replicas
 -- entries_text n es  its entries, each behind a line end
 -- head_text k h      the head of a message of the kind numbered k

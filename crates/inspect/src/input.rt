@@ -1,8 +1,12 @@
 // Lines of input, read in blocks. Of a long line no more is kept than decides what it is.
-ghost use Rattle.std.specs.Prelude.{◌≡◌, ◌≤◌, ◌++◌, length, take};
+ghost use Rattle.std.specs.Prelude.{◌≡◌, ◌≤◌, ◌++◌, length, take, IfOk, IfErr};
+ghost use Rattle.std.specs.Io.Buffered.{reader_inner};
+ghost use Rattle.std.specs.IoError.{error_kind};
+ghost use Rattle.std.specs.declared.io.ErrorKind.TheVariants.{OutOfMemory};
 ghost use Rattle.inspect.specs.Lines.{line_end_at};
 
 use crate::line::KEPT;
+use std::alloc::Global;
 use std::io;
 use std::io::{BufRead, BufReader, Read};
 
@@ -18,12 +22,18 @@ pub struct Lines<R> {
 }
 
 impl<R: Read> Lines<R> {
-    pub(crate) fn new(input: R) -> Lines<R> {
-        Lines {
-            reader: BufReader::new(input),
+    // The lines of an input, before the first. It fails where there is no memory to read ahead, and then drops the input.
+    pub(crate) fn new(alloc: Global, input: R) -> io::Result<Lines<R>>
+    where
+        R: Drop,
+        ensures input { IfOk result (λ lines. reader_inner lines.reader ≡ input) }
+        ensures err { IfErr result (λ e. error_kind e ≡ OutOfMemory) }
+    {
+        Ok(Lines {
+            reader: BufReader::new(alloc, input)?,
             kept: [0; KEPT],
             len: 0,
-        }
+        })
     }
 
     // The next line without its line end, cut to what is kept of it; or none at the end of the input.

@@ -19,7 +19,7 @@ fn main(rt: HostRuntime) -> io::Result<()> {
 
 // Answers each line as soon as it is read, so that a pipe's other end need not wait.
 fn run(rt: &HostRuntime) -> io::Result<()> {
-    let mut lines = Lines::new(rt.stdin());
+    let mut lines = Lines::new(rt.alloc(), rt.stdin())?;
     let mut buffer = [0; ROOM];
     for number in 1..u64::MAX {
         let Some(text) = lines.next()? else {

@@ -19,7 +19,7 @@ returns c =
     let h = c.head-head.ensures.answer in
     let l : ltb i (length m.entries) ≡ true = lt-ltb _ _ (subst (λ (xs : List Entry). i < length xs) es c.if-index-entries.false) in
     let r : (leb 3 (length f) && leb m.head.n (length t)) ≡ true
-    = ap (λ (x : Head). leb 3 (length f) && leb x.n (length t)) (sym h) ∙ sym c.if-not-has-room.ensures in
+    = ap (λ (x : Head). leb 3 (length f) && leb x.n (length t)) (sym h) ∙ sym c.if-not-has_room.ensures in
     let o : entry_room i (length f) (length t) m ≡ Ok m = simp (l, r) in
     let blank : Entry = record { seat = 0; state = Value 0 } in
     let e : get_or c.entries-entries.result.now i blank ≡ entry_at i m = ap (λ (xs : List Entry). get_or xs i blank) es in
@@ -32,6 +32,6 @@ returns c =
     let prefix = c.prefix.ensures.answer ∙ (λ j. take (h j).n (parts j)) in
     record {
       answer = sym (ap code o);
-      fields = c.put-front.ensures ∙ ap (λ xs. front xs f) said ∙ sym (ap (λ x. after (entry_fields i) x f) o);
-      timestamp = c.put-front-2.ensures ∙ ap (λ xs. front xs t) prefix ∙ sym (ap (λ x. after (entry_parts i) x t) o);
+      fields = c.put_front.ensures ∙ ap (λ xs. front xs f) said ∙ sym (ap (λ x. after (entry_fields i) x f) o);
+      timestamp = c.put_front-2.ensures ∙ ap (λ xs. front xs t) prefix ∙ sym (ap (λ x. after (entry_parts i) x t) o);
     }

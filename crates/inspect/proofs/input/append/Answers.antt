@@ -9,7 +9,7 @@ returns c =
     let len = c.args.len in
     let b = c.args.bytes.now in
     let m = c.min-more.result in
-    let ys = c.copy-from-slice.new.self in
+    let ys = c.copy_from_slice.new.self in
     let y : ys ≡ take m b = search rules in
     let l : length ys ≡ m = ap length y ∙ length-take-le m b (omega arith) in
     record {

@@ -15,11 +15,11 @@ high_small c = digit_small (get_or c.args.digits.now (2 * c.loop-i.i) 0) _ (sym 
 low_small : (c : goal.After-unwrap-low) → c.unwrap-low.result < 16
 low_small c = digit_small (get_or c.args.digits.now (2 * c.loop-i.i + 1) 0) _ (sym c.value-in-loop-i.ensures ∙ c.unwrap-low.ensures)
 
-pub overflow-mul-buffer : goal.overflow-mul-buffer
-overflow-mul-buffer c = omega (arith, high_small c)
+pub overflow_mul-buffer : goal.overflow_mul-buffer
+overflow_mul-buffer c = omega (arith, high_small c)
 
-pub overflow-add-buffer : goal.overflow-add-buffer
-overflow-add-buffer c = omega (arith, high_small c, low_small c)
+pub overflow_add-buffer : goal.overflow_add-buffer
+overflow_add-buffer c = omega (arith, high_small c, low_small c)
 
 pub loop-i-preserved : goal.loop-i-preserved
 loop-i-preserved c =

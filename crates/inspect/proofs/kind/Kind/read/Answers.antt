@@ -1,6 +1,6 @@
 use Rattle.std.proofs.Common.{sym, ap, ◌∙◌}
 use Rattle.gossip.specs.Format.{decode}
-use Rattle.inspect.specs.Kinds.{lattice_of, nameless}
+use Rattle.inspect.specs.Kinds.{lattice_of}
 use Rattle.inspect.proofs.Nameless.{refused_nameless}
 use Rattle.inspect.proofs.kind.Kind.read.Goals as goal
 

@@ -6,23 +6,23 @@ use Rattle.inspect.proofs.Kept.{decisive}
 use Rattle.inspect.proofs.Cases.{is_blank, is_note, is_message}
 use Rattle.inspect.proofs.line.Line.read.Goals as goal
 
-pub returns-in-err-read-hex : goal.returns-in-err-read-hex
-returns-in-err-read-hex c =
-    let e = c.without-return-text.ensures in
-    let i = is_message c.without-return-text.result.now (search rules) (λ h. search rules) in
-    let n = c.in-err-read-hex.ensures.answer in
-    let p = err_from_is_err_and c.from-residual.result c.from-residual.ensures.1 in
+pub returns-in_err-read_hex-in_default : goal.returns-in_err-read_hex-in_default
+returns-in_err-read_hex-in_default c =
+    let e = c.without_return-text.ensures in
+    let i = is_message c.without_return-text.result.now (search rules) (λ h. search rules) in
+    let n = c.in_err-read_hex-in_default.ensures.answer in
+    let p = err_from_is_err_and c.from_residual.result c.from_residual.ensures.1 in
     record {
       answer = rw (p.1, p.2) (ap as_message n ∙ sym i.0 ∙ ap text_of e);
-      buffer = c.read-hex.ensures.buffer ∙ ap (λ b. put_at 0 b c.args.buffer.now) (sym i.1 ∙ ap text_bytes e);
-      room = IfOk-from_err c.from-residual.result Roomy c.from-residual.ensures.0;
+      buffer = c.read_hex.ensures.buffer ∙ ap (λ b. put_at 0 b c.args.buffer.now) (sym i.1 ∙ ap text_bytes e);
+      room = IfOk-from_err c.from_residual.result Roomy c.from_residual.ensures.0;
       cut = decisive c.args.text.now;
     }
 
 pub returns-in-empty : goal.returns-in-empty
 returns-in-empty c =
-    let e = c.without-return-text.ensures in
-    let i = is_blank c.without-return-text.result.now (search rules) in
+    let e = c.without_return-text.ensures in
+    let i = is_blank c.without_return-text.result.now (search rules) in
     record {
       answer = sym i.0 ∙ ap text_of e;
       buffer = ap (λ b. put_at 0 b c.args.buffer.now) (sym i.1 ∙ ap text_bytes e);
@@ -32,8 +32,8 @@ returns-in-empty c =
 
 pub returns-in-35 : goal.returns-in-35
 returns-in-35 c =
-    let e = c.without-return-text.ensures in
-    let i = is_note c.without-return-text.result.now (search rules) c.in-35.is in
+    let e = c.without_return-text.ensures in
+    let i = is_note c.without_return-text.result.now (search rules) c.in-35.is in
     record {
       answer = sym i.0 ∙ ap text_of e;
       buffer = ap (λ b. put_at 0 b c.args.buffer.now) (sym i.1 ∙ ap text_bytes e);
@@ -41,14 +41,14 @@ returns-in-35 c =
       cut = decisive c.args.text.now;
     }
 
-pub returns-in-ok-read-hex : goal.returns-in-ok-read-hex
-returns-in-ok-read-hex c =
-    let e = c.without-return-text.ensures in
-    let i = is_message c.without-return-text.result.now (search rules) (λ h. search rules) in
-    let n = c.in-ok-read-hex.ensures.answer in
+pub returns-in_ok-read_hex-in_default : goal.returns-in_ok-read_hex-in_default
+returns-in_ok-read_hex-in_default c =
+    let e = c.without_return-text.ensures in
+    let i = is_message c.without_return-text.result.now (search rules) (λ h. search rules) in
+    let n = c.in_ok-read_hex-in_default.ensures.answer in
     record {
       answer = ap as_message n ∙ sym i.0 ∙ ap text_of e;
-      buffer = c.read-hex.ensures.buffer ∙ ap (λ b. put_at 0 b c.args.buffer.now) (sym i.1 ∙ ap text_bytes e);
-      room = c.in-ok-read-hex.ensures.room;
+      buffer = c.read_hex.ensures.buffer ∙ ap (λ b. put_at 0 b c.args.buffer.now) (sym i.1 ∙ ap text_bytes e);
+      room = c.in_ok-read_hex-in_default.ensures.room;
       cut = decisive c.args.text.now;
     }

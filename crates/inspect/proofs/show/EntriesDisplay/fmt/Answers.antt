@@ -12,7 +12,7 @@ pub loop-entry-preserved : goal.loop-entry-preserved
 loop-entry-preserved g c =
     prints_more g.W.Write.write_str_gives (λ e. codes "\n" ++ entry_text c.args.self.now.n e) c.args.f.now
     c.args.self.now.list.now c.loop-entry.entry-index (record { seat = 0; state = Value 0 }) c.loop-entry.f _
-    c.loop-entry-test.true c.loop-entry.invariant c.in-ok-write.ensures.shows
+    c.loop-entry-test.true c.loop-entry.invariant c.in_ok-write.ensures.writes
 
 pub returns-clause-writes : goal.returns-clause-writes
 returns-clause-writes g c plain ok =
