@@ -1,11 +1,11 @@
 -- What a checkpoint says, and which checkpoints there are.
 --
--- Saved                 a replica's message, and seven rows: row j is the latest timestamp that it has heard from replica j
--- zero                  the timestamp that covers no change
--- row rows j            row j, zero past the end
--- rows_all_hold own t rows   each row is at or under the timestamp t, and the row of replica own, its own, is at or above t too, and so equals it
+-- Saved                     a replica's message, and seven rows: row j is the latest timestamp that it has heard from replica j
+-- zero                      the timestamp that covers no change
+-- row rows j                row j, zero past the end
+-- rows_all_hold own t rows  each row is at or under the timestamp t, and the row of replica own, its own, is at or above t too, and so equals it
 -- sound_rows n own t rows   the rows of replica own of n whose timestamp is t: they hold, and those from the n-th on are zero
--- sound_saved c          the message is sound, and so are the rows
+-- sound_saved c             the message is sound, and so are the rows
 use Rattle.std.specs.Prelude.{ℕ, Bool, ◌&&◌, List, [], length, drop, ◌==◌, slice_index_or}
 use Rattle.gossip.specs.Messages.{Message, sound, wide_timestamp}
 use Rattle.gossip.specs.Numbers.{every}

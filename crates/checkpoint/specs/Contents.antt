@@ -1,6 +1,6 @@
 -- What the code's checkpoint means, and what making one answers.
 --
--- saved c        what a checkpoint says
+-- saved c         what a checkpoint says
 -- joined_to m rs  the checkpoint of a message and rows, or 0 where these are not rows of the message's sender
 use Rattle.std.specs.Prelude.{ℕ, List, Ok, Result}
 use Rattle.gossip.specs.Contents.{contents}

@@ -1,15 +1,15 @@
 -- What a gossip message says, and which messages there are.
 --
--- Message       a head and entries
--- latest        the latest time and clock reading, 2^40 - 1
--- seats es      the seats of entries, in their order
--- below x xs    x is below the first of xs, if there is one
--- rises xs      each number is above the one before it
--- origin n p    n is 1 to 7, and replica p is one of the n
--- wide..        a timestamp, or a tombstone's, has seven parts of 32 bits: true of all that the code holds
--- allowed t s   a state that may stand in a message with the timestamp t: a value; or a tombstone with a time, and a timestamp at or under t
--- sound..       a head, an entry beside a timestamp, or a message keeps every rule of the format but that of its kind
--- of_kind k m    the message's values are values of the kind k
+-- Message      a head and entries
+-- latest       the latest time and clock reading, 2^40 - 1
+-- seats es     the seats of entries, in their order
+-- below x xs   x is below the first of xs, if there is one
+-- rises xs     each number is above the one before it
+-- origin n p   n is 1 to 7, and replica p is one of the n
+-- wide..       a timestamp, or a tombstone's, has seven parts of 32 bits: true of all that the code holds
+-- allowed t s  a state that may stand in a message with the timestamp t: a value; or a tombstone with a time, and a timestamp at or under t
+-- sound..      a head, an entry beside a timestamp, or a message keeps every rule of the format but that of its kind
+-- of_kind k m  the message's values are values of the kind k
 use Rattle.std.specs.Prelude.{ℕ, ◌^◌, Bool, true, ◌&&◌, ltb, List, [], ◌∷◌, map, length, ◌==◌, nat_le, nat_lt}
 use Rattle.gossip.specs.Lattices.{Kind}
 use Rattle.gossip.specs.Numbers.{every}

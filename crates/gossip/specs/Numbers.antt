@@ -8,7 +8,7 @@
 -- spell ws vs     the numbers vs of widths ws, one after another
 -- total ws        how many bytes these widths take together
 -- joined f xs     what f makes of each of xs, one after another
--- put_at at xs o   o with xs written over it from a place on
+-- put_at at xs o  o with xs written over it from a place on
 -- every p xs      each of xs passes the test p
 -- Bytes b         each of b is a byte
 use Rattle.std.specs.Prelude.{ℕ, zero, suc, ◌+◌, ◌*◌, ◌/◌, ◌%◌, ◌<◌, Bool, true, ◌&&◌, List, [], ◌∷◌, ◌++◌, map, length, take, drop, slice_index}

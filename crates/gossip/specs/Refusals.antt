@@ -1,11 +1,11 @@
 -- The refusals of this crate, by the numbers that every part of the service gives them.
 --
--- number r        a refusal's number
--- cause r         its cause in words
--- shown r         the two as they are printed, a space between them
--- outcome f r     a result as a promise speaks of it: f of what was done, or the refusal's number
--- unless ok e r   r where the test holds, else the refusal numbered e
--- and_then r f     f of what r gives, or r's refusal
+-- number r       a refusal's number
+-- cause r        its cause in words
+-- shown r        the two as they are printed, a space between them
+-- outcome f r    a result as a promise speaks of it: f of what was done, or the refusal's number
+-- unless ok e r  r where the test holds, else the refusal numbered e
+-- and_then r f   f of what r gives, or r's refusal
 use Rattle.std.specs.Prelude.{ℕ, Bool, cond, List, ◌++◌, Ok, Err, codes, decimal, Result}
 use Rattle.gossip.specs.declared.refusal.Refusal.{Refusal}
 use Rattle.gossip.specs.declared.refusal.Refusal.TheVariants.{Replica, Full, Parts, Short, Form, Origin, Layout, Clock, Order, Mark}

@@ -1,12 +1,12 @@
 -- Multipart timestamps, as lists of their parts: one counter for each replica of a group.
 --
--- part s p          the counter of replica p in s, 0 past the end of s
--- under s t         s is at or under t: each part of s is at most that part of t
--- merged s t        the larger of each part
--- bumped s p        one more in part p
--- padded s          s with zeros behind it, seven parts in all
+-- part s p           the counter of replica p in s, 0 past the end of s
+-- under s t          s is at or under t: each part of s is at most that part of t
+-- merged s t         the larger of each part
+-- bumped s p         one more in part p
+-- padded s           s with zeros behind it, seven parts in all
 -- zero_from n s      the parts from the n-th on are 0, as in every timestamp of n replicas
--- exactly n k       k numbers are a timestamp of n replicas: k is n, and n is 1 to 7
+-- exactly n k        k numbers are a timestamp of n replicas: k is n, and n is 1 to 7
 -- exactly_bytes n k  k bytes are one, four to a number: k is 4n, and n is 1 to 7
 use Rattle.std.specs.Prelude.{ℕ, zero, suc, ◌+◌, ◌-◌, ◌*◌, max, Bool, true, ◌&&◌, List, [], ◌∷◌, ◌++◌, length, replicate, ◌==◌, nat_le, slice_index, slice_set}
 

@@ -1,8 +1,8 @@
 -- What the code's replica means.
 --
--- memory r             what a replica knows
--- change_of, receipt_of, reply_of   the code's answers in the words of the rule
--- Took s before r then    what a call that takes the step s promises: it answers r, the step's answer or its refusal, and leaves the step's memory and the membership
+-- memory r                         what a replica knows
+-- change_of, receipt_of, reply_of  the code's answers in the words of the rule
+-- Took s before r then             what a call that takes the step s promises: it answers r, the step's answer or its refusal, and leaves the step's memory and the membership
 use Rattle.std.specs.Prelude.{◌≡◌, ℕ, Result}
 use Rattle.table.specs.Contents.{contents}
 use Rattle.replica.specs.Answers.{Answer, set, same, old, new, Step, Reply, known, unknown, behind, answered, left}

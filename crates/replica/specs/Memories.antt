@@ -4,12 +4,12 @@
 -- fresh               the memory of a replica that knows nothing yet
 -- alone               the membership of a replica that has joined no group yet: the only one of a group of its own
 -- joins p             a membership that a replica can have: n is 1 to 7, and the replica is one of the n; or 13 or 1
--- message_of p m       the message that tells what the replica knows
--- saved_of p m         its checkpoint
--- memory_of c          the memory that a checkpoint says
--- sound_memory p m     what every replica keeps: its checkpoint is sound. So clock, times and parts are in bounds, parts and rows past n are 0, there are
+-- message_of p m      the message that tells what the replica knows
+-- saved_of p m        its checkpoint
+-- memory_of c         the memory that a checkpoint says
+-- sound_memory p m    what every replica keeps: its checkpoint is sound. So clock, times and parts are in bounds, parts and rows past n are 0, there are
 --                     at most 64 entries, seats rise, tombstones' timestamps and rows are at or under the timestamp, and the own row equals it
--- of_kind_memory k m    the values are values of the kind k
+-- of_kind_memory k m  the values are values of the kind k
 use Rattle.std.specs.Prelude.{ℕ, Bool, ◌&&◌, List, [], replicate, Ok, Result, nat_le, nat_lt}
 use Rattle.gossip.specs.Lattices.{Kind}
 use Rattle.gossip.specs.Messages.{Message, of_kind_state}

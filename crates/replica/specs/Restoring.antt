@@ -1,9 +1,9 @@
 -- A checkpoint read by the replica that it belongs to.
 --
--- is_own p c              the checkpoint is of this replica: its group, n and replica are those of the membership p
--- encode_memory k p m     the bytes of a replica's checkpoint
--- decode_memory k p b     the memory that the bytes of a checkpoint of this replica spell; or 20 to 26, or 0
--- restored r m           the memory after reading a checkpoint that gives r, which was m: a refusal changes nothing
+-- is_own p c           the checkpoint is of this replica: its group, n and replica are those of the membership p
+-- encode_memory k p m  the bytes of a replica's checkpoint
+-- decode_memory k p b  the memory that the bytes of a checkpoint of this replica spell; or 20 to 26, or 0
+-- restored r m         the memory after reading a checkpoint that gives r, which was m: a refusal changes nothing
 use Rattle.std.specs.Prelude.{ℕ, Bool, ◌&&◌, List, Ok, Err, Result, ◌==◌}
 use Rattle.gossip.specs.Lattices.{Kind}
 use Rattle.gossip.specs.Refusals.{unless, and_then}

@@ -1,10 +1,10 @@
 -- What is proved of the rule, for every kind that keeps its laws.
 --
--- Possible d        the deed has a seat of 64 bits, or a message that is sound
--- OfKind k d        its message's values are of the kind k
--- KeepsSound       every step leaves a sound memory
--- KeepsKind        and one of the kind
--- Restores          a sound memory is read back from its checkpoint; what reads is sound, of the kind, and the only spelling of its memory
+-- Possible d  the deed has a seat of 64 bits, or a message that is sound
+-- OfKind k d  its message's values are of the kind k
+-- KeepsSound  every step leaves a sound memory
+-- KeepsKind   and one of the kind
+-- Restores    a sound memory is read back from its checkpoint; what reads is sound, of the kind, and the only spelling of its memory
 use Rattle.std.specs.Prelude.{◌≡◌, ℕ, ◌^◌, Bool, true, List, Ok, nat_lt}
 use Rattle.gossip.specs.Lattices.{Kind, Laws}
 use Rattle.gossip.specs.Messages.{sound, of_kind, origin}

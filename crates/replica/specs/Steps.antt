@@ -1,18 +1,18 @@
 -- The rule of one replica: what each step answers and leaves, or the number that refuses it, in the order of the refusals.
 --
--- clock_now m c       the later of the replica's clock and the reading c given
--- is_late p m t c     the time t and the grace end before the clock now
--- raised p m         the timestamp with one more in the replica's own part
--- raise p m u x      that timestamp, for a change that gives the seat u the state x; or 6 or 7
--- stored p m c u x   the seat u has the state x, as an accepted change of this replica
--- entered k x o      the state that an enter of the value x gives a seat of which o is known; none where nothing changes
--- has_tombstone o     a tombstone is known of a seat
--- deleted x o        the state that a delete gives it, the tombstone x; none where nothing changes
--- enter, delete, receive, sweep   a step each
--- hear               a message that is read already
--- Deed               a step with what it is given
--- step k p m d       what a deed answers and leaves
--- lookup m u s       what is known of the seat u, asked at the timestamp s
+-- clock_now m c                  the later of the replica's clock and the reading c given
+-- is_late p m t c                the time t and the grace end before the clock now
+-- raised p m                     the timestamp with one more in the replica's own part
+-- raise p m u x                  that timestamp, for a change that gives the seat u the state x; or 6 or 7
+-- stored p m c u x               the seat u has the state x, as an accepted change of this replica
+-- entered k x o                  the state that an enter of the value x gives a seat of which o is known; none where nothing changes
+-- has_tombstone o                a tombstone is known of a seat
+-- deleted x o                    the state that a delete gives it, the tombstone x; none where nothing changes
+-- enter, delete, receive, sweep  a step each
+-- hear                           a message that is read already
+-- Deed                           a step with what it is given
+-- step k p m d                   what a deed answers and leaves
+-- lookup m u s                   what is known of the seat u, asked at the timestamp s
 use Rattle.std.specs.Prelude.{ℕ, ◌+◌, max, Bool, true, false, cond, not, ◌&&◌, List, length, take, set as update, Some, None, Ok, Option, Result, ◌==◌, nat_le, nat_lt}
 use Rattle.gossip.specs.Format.{decode}
 use Rattle.gossip.specs.Lattices.{Kind}

@@ -1,9 +1,9 @@
 -- What a half of a log has.
 --
--- in_use h            the bytes in use
--- contents h         the last bytes of each number
--- staged_head h       the four bytes behind those in use
--- staged_bytes h n    the n bytes behind those four
+-- in_use h          the bytes in use
+-- contents h        the last bytes of each number
+-- staged_head h     the four bytes behind those in use
+-- staged_bytes h n  the n bytes behind those four
 use Rattle.std.specs.Prelude.{ℕ, ◌+◌, List, take, drop, vec_items}
 use Rattle.storage.specs.Spans.{indexed}
 use Rattle.storage.specs.declared.log.half.Half.{Half}

@@ -2,12 +2,12 @@
 --
 -- head k n            the head of n bytes saved for the number k: the number, a zero, and the length as two bytes, the low one first
 -- size log            the length that the head at the front gives
--- sound_head k z n m   a head gives a number k of 0 to 6, a zero z, and a length n of 1 to 3320 that is not more than the m bytes left
+-- sound_head k z n m  a head gives a number k of 0 to 6, a zero z, and a length n of 1 to 3320 that is not more than the m bytes left
 -- sound log           a log begins with a whole sound head and all its bytes
 -- scan f log saved    what the log makes of what was saved before it, by at most f heads; None where it is not a log
--- read_log log         what a log of at most 26592 bytes says is saved, of each number the last; None where it is not a log
--- or_else o x          what o holds, or x
--- put_at at xs o       o with xs written over it from a place on
+-- read_log log        what a log of at most 26592 bytes says is saved, of each number the last; None where it is not a log
+-- or_else o x         what o holds, or x
+-- put_at at xs o      o with xs written over it from a place on
 use Rattle.std.specs.Prelude.{ℕ, zero, suc, ◌+◌, ◌-◌, ◌*◌, ◌/◌, ◌%◌, Bool, cond, ◌&&◌, List, [], ◌∷◌, ◌++◌, length, take, drop, replicate, Some, None, Option, ◌==◌, nat_le, slice_index, slice_set}
 
 abbrev pub head : ℕ → ℕ → List ℕ

@@ -1,7 +1,7 @@
 -- Why a call of this crate is refused.
 --
--- cause r         a refusal's cause in words, as it is printed
--- not_a_log_cause    the cause of the refusal of bytes that are not those of a log
+-- cause r          a refusal's cause in words, as it is printed
+-- not_a_log_cause  the cause of the refusal of bytes that are not those of a log
 use Rattle.std.specs.Prelude.{ℕ, List, codes}
 use Rattle.storage.specs.declared.refusals.Refusal.{Refusal}
 use Rattle.storage.specs.declared.refusals.Refusal.TheVariants.{Number, Length, Room}

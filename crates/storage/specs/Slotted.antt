@@ -1,7 +1,7 @@
 -- What a store of seven places means.
 --
--- bytes_of s    the bytes that a place holds
--- slotted s    those of each place
+-- bytes_of s  the bytes that a place holds
+-- slotted s   those of each place
 use Rattle.std.specs.Prelude.{ℕ, List, map, take, vec_items}
 use Rattle.storage.specs.declared.slots.Slot.{Slot}
 use Rattle.storage.specs.declared.slots.SlotStore.{SlotStore}

@@ -1,9 +1,9 @@
 -- What a store means: the bytes saved for each number 0 to 6, [] where nothing is saved.
 --
--- Places saved             there are seven, each of at most 3320 bytes
--- save_answer k n           the answer to a call to save n bytes for the number k
--- load_answer k n saved     the answer to a call to load the bytes saved for the number k into a buffer of n bytes
--- fronted saved buffer     a buffer with these bytes at its front, whose rest stays
+-- Places saved           there are seven, each of at most 3320 bytes
+-- save_answer k n        the answer to a call to save n bytes for the number k
+-- load_answer k n saved  the answer to a call to load the bytes saved for the number k into a buffer of n bytes
+-- fronted saved buffer   a buffer with these bytes at its front, whose rest stays
 use Rattle.std.specs.Prelude.{◌≡◌, ℕ, ◌≤◌, cond, ◌&&◌, List, [], ◌++◌, length, drop, Ok, Err, Result, nat_le, slice_index_or}
 use Rattle.storage.specs.declared.refusals.Refusal.{Refusal}
 use Rattle.storage.specs.declared.refusals.Refusal.TheVariants.{Number, Length, Room}

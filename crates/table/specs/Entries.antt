@@ -1,22 +1,22 @@
 -- Entries in the rising order of their seats, and what the calls on a table make of them.
 --
--- entry u x                  the entry of the seat u with the state x
--- entry_at es i               the entry at an index, none past the end
--- find es u                  what is known of a seat
--- changed es u x             the entry of a seat, if there is one, with another state; every other entry stays
--- put es u x                 the entry of a seat, changed or added in its place
--- fits es                    a table has room for the entries: there are at most 64
--- combine join x y           two states of one seat: values join, a tombstone outlasts a value, two keep the later time and the merged timestamps
--- added join o y             what a state adds to what is known of its seat
--- absorbed join es u x       one entry taken in
--- merge join es fs           each of fs taken in
--- fresh es fs                how many entries of fs have a seat that has none in es
--- under_rows s rows           a timestamp is at or under every row
--- expired g c rows x         x is a tombstone whose time and the grace g end before the clock c, and that every row covers
--- swept g c rows es          what a sweep leaves
--- removable g c rows es      what a sweep removes
--- survivor g c rows o        what a sweep leaves of what is known of one seat
--- both join o p              what two tables know of one seat together
+-- entry u x              the entry of the seat u with the state x
+-- entry_at es i          the entry at an index, none past the end
+-- find es u              what is known of a seat
+-- changed es u x         the entry of a seat, if there is one, with another state; every other entry stays
+-- put es u x             the entry of a seat, changed or added in its place
+-- fits es                a table has room for the entries: there are at most 64
+-- combine join x y       two states of one seat: values join, a tombstone outlasts a value, two keep the later time and the merged timestamps
+-- added join o y         what a state adds to what is known of its seat
+-- absorbed join es u x   one entry taken in
+-- merge join es fs       each of fs taken in
+-- fresh es fs            how many entries of fs have a seat that has none in es
+-- under_rows s rows      a timestamp is at or under every row
+-- expired g c rows x     x is a tombstone whose time and the grace g end before the clock c, and that every row covers
+-- swept g c rows es      what a sweep leaves
+-- removable g c rows es  what a sweep removes
+-- survivor g c rows o    what a sweep leaves of what is known of one seat
+-- both join o p          what two tables know of one seat together
 use Rattle.std.specs.Prelude.{ℕ, zero, suc, ◌+◌, max, Bool, false, cond, not, ◌&&◌, List, [], ◌∷◌, length, is_some, Some, None, filter, Option, ◌==◌, nat_le, nat_lt}
 use Rattle.gossip.specs.Numbers.{every}
 use Rattle.gossip.specs.Timestamps.{merged, under}

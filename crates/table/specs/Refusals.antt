@@ -1,10 +1,10 @@
 -- The refusal of this crate, by the number that every part of the service gives it.
 --
--- number r     a refusal's number
--- cause r      its cause in words
--- shown r      the two as they are printed, a space between them
--- outcome r    a result as a promise speaks of it: what was done, or the refusal's number
--- if_fits es    done where a table has room for the entries, else refused by 6
+-- number r    a refusal's number
+-- cause r     its cause in words
+-- shown r     the two as they are printed, a space between them
+-- outcome r   a result as a promise speaks of it: what was done, or the refusal's number
+-- if_fits es  done where a table has room for the entries, else refused by 6
 use Rattle.std.specs.Prelude.{ℕ, List, ◌++◌, Ok, Err, codes, decimal, Result}
 use Rattle.gossip.specs.Refusals.{unless}
 use Rattle.gossip.specs.declared.entry.Entry.{Entry}

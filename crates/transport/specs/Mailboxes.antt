@@ -1,9 +1,9 @@
 -- What a mailbox means.
 --
--- parcel_at p    the message in a place
--- parcels m     the messages of a mailbox, the oldest first
--- free m        a place is free
--- most m        the longest message that a mailbox takes
+-- parcel_at p  the message in a place
+-- parcels m    the messages of a mailbox, the oldest first
+-- free m       a place is free
+-- most m       the longest message that a mailbox takes
 use Rattle.std.specs.Prelude.{ℕ, Bool, List, map, length, take, vec_items, nat_lt}
 use Rattle.transport.specs.Parcels.{Parcel, parcel}
 use Rattle.transport.specs.declared.mailbox.Place.{Place}

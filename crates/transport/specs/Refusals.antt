@@ -1,8 +1,8 @@
 -- Why a message is not taken, and what a post answers.
 --
--- cause r                      a refusal's cause in words
--- post_answer opened most n     what a post of n bytes answers: the length is looked at first, then whether the transport is open
--- taken r p                    what a post adds: its parcel where it was taken, else nothing
+-- cause r                    a refusal's cause in words
+-- post_answer opened most n  what a post of n bytes answers: the length is looked at first, then whether the transport is open
+-- taken r p                  what a post adds: its parcel where it was taken, else nothing
 use Rattle.std.specs.Prelude.{ℕ, Bool, cond, List, [], ◌∷◌, is_ok, Ok, Err, codes, Result}
 use Rattle.transport.specs.Parcels.{Parcel, sized}
 use Rattle.transport.specs.declared.refusal.Refusal.{Refusal}

@@ -1,9 +1,9 @@
 -- Messages behind the clock's reading at which they were posted.
 --
--- eight n                  a reading as eight bytes, the lowest first
--- reading_of bs             the reading in the first eight bytes
--- untimed ps               the messages of nine bytes or more, without their first eight
--- fresh grace clock bs     what a message gives at a reading of the clock: nothing where it has under nine bytes, or where its reading plus the grace is below the clock's
+-- eight n               a reading as eight bytes, the lowest first
+-- reading_of bs         the reading in the first eight bytes
+-- untimed ps            the messages of nine bytes or more, without their first eight
+-- fresh grace clock bs  what a message gives at a reading of the clock: nothing where it has under nine bytes, or where its reading plus the grace is below the clock's
 use Rattle.std.specs.Prelude.{ℕ, ◌+◌, ◌*◌, ◌/◌, ◌%◌, cond, ◌&&◌, List, [], ◌∷◌, length, drop, nat_le, slice_index}
 use Rattle.transport.specs.Parcels.{Parcel, parcel}
 
