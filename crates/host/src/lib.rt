@@ -1,5 +1,5 @@
 // Calls for a host in C, on plain numbers and areas of memory: comparing timestamps, and reading messages.
-// Nothing is kept from call to call and nothing is allocated; host/seats.h has the declarations for C.
+// Nothing is kept from call to call and nothing is allocated. The crate host_c gives the calls their names in C, and host/seats.h declares them.
 #![tactic(auto)]
 
 mod outcome;

@@ -28,8 +28,7 @@ const ENTRY: usize = 3;
 
 // Whether the first timestamp is at or under the second (1), and the second at or under the first (2), added up.
 // 8 where the lengths differ or lie outside 1 to 7.
-#[unsafe(no_mangle)]
-pub extern "C" fn seats_compare(first: &[u32], second: &[u32]) -> u8
+pub fn seats_compare(first: &[u32], second: &[u32]) -> u8
     ensures answer { result ≡ comparison first.now second.now }
 {
     let n = first.len();
@@ -44,13 +43,7 @@ pub extern "C" fn seats_compare(first: &[u32], second: &[u32]) -> u8
 }
 
 // Reads a message of the kind with this number, and writes its head: five fields and n parts.
-#[unsafe(no_mangle)]
-pub extern "C" fn seats_read_head(
-    kind: u8,
-    bytes: &[u8],
-    fields: &mut [u64],
-    timestamp: &mut [u32],
-) -> u8
+pub fn seats_read_head(kind: u8, bytes: &[u8], fields: &mut [u64], timestamp: &mut [u32]) -> u8
     ensures answer { result ≡ code (head_outcome kind bytes.now (length fields.old) (length timestamp.old)) }
     ensures fields { fields.new ≡ after head_fields (head_outcome kind bytes.now (length fields.old) (length timestamp.old)) fields.old }
     ensures timestamp { timestamp.new ≡ after head_parts (head_outcome kind bytes.now (length fields.old) (length timestamp.old)) timestamp.old }
@@ -62,8 +55,7 @@ pub extern "C" fn seats_read_head(
 }
 
 // Reads a message of the kind with this number, and writes the entry of an index: three fields and n parts.
-#[unsafe(no_mangle)]
-pub extern "C" fn seats_read_entry(
+pub fn seats_read_entry(
     kind: u8,
     bytes: &[u8],
     index: usize,
