@@ -1,12 +1,12 @@
 -- The entries of a message in bytes: what reads is sound and spelled in one way, and what is written reads back.
 use Rattle.std.proofs.Common.{◌≡◌, ℕ, ◌*◌, ◌^◌, ◌<◌, ◌≤◌, Bool, true, false, cond, ◌&&◌, eqb, leb, List, [], ◌∷◌, ◌++◌, map, length, drop, Some, None, Option, sym, refl, ap, ◌∙◌, subst, append-nil, arith, length-append, length-drop, drop_at}
-use Rattle.std.specs.List.{AllByRecursion as All}
+use Rattle.std.specs.List.{list_all, AllByRecursion as All}
 use Rattle.std.proofs.lemmas.List.{drop_all}
 use Rattle.std.proofs.lemmas.Bool.{and_parts, and_from, leb-true, eqb-true, lt-ltb}
 use Rattle.gossip.specs.Format.{alongside, encode_entry, encode_timestamp, entries_of, entry_length, entry_widths, mark_of, marked, seat_at, state_at, timestamp_at, timestamp_of, tombstone_at, value_at, word_of}
 use Rattle.gossip.specs.Lattices.{Kind, Laws}
 use Rattle.gossip.specs.Messages.{allowed, latest, of_kind_state, seats, sound_entry, wide_state, wide_timestamp}
-use Rattle.gossip.specs.Numbers.{every, field, Bytes}
+use Rattle.gossip.specs.Numbers.{field, Bytes}
 use Rattle.gossip.specs.Timestamps.{under, zero_from}
 use Rattle.gossip.specs.declared.timestamp.Timestamp.{Timestamp}
 use Rattle.gossip.specs.declared.entry.Entry.{Entry}
@@ -60,8 +60,8 @@ module _ (k : Kind) (top : Timestamp) (m w : ℕ) (s : Timestamp) where
 pub record EntriesRead (k : Kind) (n : ℕ) (top : Timestamp) (ps : List (List ℕ)) (es : List Entry) : Type 0 where
   pub spelled : map (encode_entry n) es ≡ ps
   pub seats : seats es ≡ map seat_at ps
-  pub sound : every (sound_entry top) es ≡ true
-  pub kind : every (λ e. of_kind_state k e.state) es ≡ true
+  pub sound : list_all (sound_entry top) es ≡ true
+  pub kind : list_all (λ e. of_kind_state k e.state) es ≡ true
 
 module _ (k : Kind) (n : ℕ) (top : Timestamp) (most : n ≤ 7) where
   state_read : (p : List ℕ) (state : State) → Bytes p → state_at k n top p ≡ Some state → StateRead k top (field 16 4 p) (field 8 8 p) (timestamp_at n (drop 20 p)) state
@@ -128,7 +128,7 @@ module _ (n : ℕ) (top : Timestamp) (most : n ≤ 7) where
       let b = length-encode_timestamp n (timestamp_of e.state) most (timestamp_of_wide e.state (entry_to_parts top e sound).1) in
       simp length-append (omega arith)
 
-  pub entries_long : (es : List Entry) → every (sound_entry top) es ≡ true → All (λ e. length (encode_entry n e) ≡ entry_length n) es
+  pub entries_long : (es : List Entry) → list_all (sound_entry top) es ≡ true → All (λ e. length (encode_entry n e) ≡ entry_length n) es
   entries_long [] s = tt
   entries_long (e ∷ es) s = let a = and_parts (sound_entry top e) _ s in (length-encode_entry e a.0, entries_long es a.1)
 
@@ -164,7 +164,7 @@ module _ (k : Kind) (laws : Laws k) (n : ℕ) (top : Timestamp) (most : n ≤ 7)
         = ap (timestamp_at n) d ∙ timestamp_back n t most (timestamp_of_wide e.state s.1) [] (timestamp_of_zeros n top e.state zeros s.2) in
         (λ i. marked k top (mark i) (word i) (timestamp i)) ∙ marked_back k top e.state s.2 kind
 
-  pub entries_back : (es : List Entry) → every (sound_entry top) es ≡ true → every (λ e. of_kind_state k e.state) es ≡ true → EntriesBack k n top es
+  pub entries_back : (es : List Entry) → list_all (sound_entry top) es ≡ true → list_all (λ e. of_kind_state k e.state) es ≡ true → EntriesBack k n top es
   entries_back [] s o = record { seats = refl; read = refl }
   entries_back (e ∷ es) s o =
       let a = and_parts (sound_entry top e) _ s in

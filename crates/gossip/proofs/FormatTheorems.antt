@@ -1,15 +1,17 @@
 -- Reading and writing undo each other: a sound message is read back from its spelling, and what reads is sound and spelled in one way.
-use Rattle.std.proofs.Common.{◌≡◌, ℕ, ◌*◌, true, List, [], map, length, get_or, drop, Some, None, Ok, Option, sym, refl, ap, ◌∙◌, append-nil, arith, length-drop}
+use Rattle.std.proofs.Common.{◌≡◌, ℕ, ◌*◌, true, List, [], map, length, get_or, drop, Some, None, Ok, Option, sym, refl, ap, ◌∙◌, append-nil, arith, length-drop, ◌+◌, ◌≤◌}
+use Rattle.std.specs.List.{list_all}
 use lib.ListN.{length-map}
 use Rattle.std.proofs.lemmas.List.{drop_all}
-use Rattle.gossip.specs.Format.{decode, decode_entries, decode_head, encode, encode_entry, entries_at, entries_of, entry_bytes, entry_length, head_at, message_length, seat_at, with_entries}
+use Rattle.gossip.specs.Format.{decode, decode_entries, decode_head, encode, encode_entry, entries_at, entries_of, entry_bytes, entry_length, head_at, message_length, seat_at, with_entries, encode_timestamp}
 use Rattle.gossip.specs.FormatLaws.{ReadsBack, SoleSpelling, ReadsSound}
 use Rattle.gossip.specs.Lattices.{Kind}
 use Rattle.gossip.specs.Messages.{Message, of_kind, rises, sound, sound_head, sound_entry}
-use Rattle.gossip.specs.Numbers.{every, field, joined, pieces, Bytes}
+use Rattle.gossip.specs.Numbers.{field, joined, pieces, Bytes}
 use Rattle.gossip.specs.Refusals.{and_then}
 use Rattle.gossip.specs.declared.entry.Entry.{Entry}
 use Rattle.gossip.specs.declared.head.Head.{Head}
+use Rattle.gossip.specs.declared.refusal.Refusal.TheVariants.{Order}
 use Rattle.gossip.proofs.EntryBytes.{EntriesRead, entries_back, entries_long, entries_read}
 use Rattle.gossip.proofs.HeadBytes.{HeadPasses, head_read, head_at-sound, head_at-spelled, headed, headed-back}
 use Rattle.gossip.proofs.NumberLaws.{bytes_drop, length-pieces}
@@ -17,7 +19,7 @@ use Rattle.gossip.proofs.Sound.{Parts, head_to_parts, parts, whole}
 use Rattle.gossip.proofs.Spelling.{joined-pieces, length-joined, nothing_behind, pieces-joined, pieces_whole}
 use Rattle.gossip.proofs.TimestampBytes.{length-encode_timestamp}
 use Rattle.gossip.proofs.Unless.{and_then_ok, passed, unless_ok}
-use Rattle.gossip.proofs.Written.{message_long}
+use Rattle.gossip.proofs.Written.{message_long, message_fits}
 
 -- a head that reads is sound
 pub head-sound : (k : Kind) (b : List ℕ) (h : Head) → Bytes b → decode_head k b ≡ Ok h → sound_head h ≡ true
@@ -25,7 +27,7 @@ head-sound k b h y e = let r = head_read k b h e in ap sound_head (sym r.1) ∙ 
 
 -- entries that read are sound beside the head's timestamp
 pub entries_sound : (k : Kind) (h : Head) (count : ℕ) (b : List ℕ) (es : List Entry) → Bytes b → sound_head h ≡ true → length b ≡ count * entry_length h.n
-    → entries_of k h.n h.timestamp (pieces (entry_length h.n) count b) ≡ Some es → every (sound_entry h.timestamp) es ≡ true
+    → entries_of k h.n h.timestamp (pieces (entry_length h.n) count b) ≡ Some es → list_all (sound_entry h.timestamp) es ≡ true
 entries_sound k h count b es y s l e =
     let ps = pieces_whole (entry_length h.n) count b y (omega arith) in
     (entries_read k h.n h.timestamp (head_to_parts h s).most _ es ps e).sound
@@ -45,7 +47,7 @@ reads_back k laws m s o =
     = b.1 ∙ ap (pieces (entry_length n) (length es)) (sym (append-nil rest)) ∙ pieces-joined (encode_entry n) (entry_length n) es [] long in
     ap (λ r. and_then r (λ h. decode_entries k h (entry_bytes h.n (encode k m)))) b.0
     ∙ ap (decode_entries k m.head) c
-    ∙ passed _ 25 _ _ (ap rises e.seats ∙ p.rising) (ap (with_entries m.head) e.read)
+    ∙ passed _ Order _ _ (ap rises e.seats ∙ p.rising) (ap (with_entries m.head) e.read)
 
 -- a sound message is as long as the format says
 pub sound_long : (k : Kind) (m : Message) → sound m ≡ true → length (encode k m) ≡ message_length m.head.n (length m.entries)
@@ -55,6 +57,17 @@ sound_long k m s =
     let h = head_to_parts m.head p.head in
     message_long k m (length-encode_timestamp n m.head.timestamp h.most h.wide)
     (length-joined (encode_entry n) (entry_length n) m.entries (entries_long n m.head.timestamp h.most m.entries p.each))
+
+-- and its timestamp and entries have room behind its front
+pub sound_fits : (m : Message) → sound m ≡ true → 24 + length (encode_timestamp m.head.n m.head.timestamp) + length (joined (encode_entry m.head.n) m.entries) ≤ 3124
+sound_fits m s =
+    let n = m.head.n in
+    let p = parts m s in
+    let h = head_to_parts m.head p.head in
+    let t = length-encode_timestamp n m.head.timestamp h.most h.wide in
+    let e = length-joined (encode_entry n) (entry_length n) m.entries (entries_long n m.head.timestamp h.most m.entries p.each) in
+    let f = message_fits n (length m.entries) h.most p.few in
+    omega (arith, t, e, f)
 
 -- What reads
 
@@ -84,7 +97,7 @@ message_read k b m y e =
     let l = h.0.long in
     let ps = pieces_whole (entry_length n) (field 8 2 b) (drop (entries_at n) b) (bytes_drop (entries_at n) b y) (simp length-drop (omega arith)) in
     let d : decode_entries k (head_at b) (entry_bytes n b) ≡ Ok m = ap (λ x. decode_entries k x (entry_bytes x.n b)) h.1 ∙ a.2 in
-    let c = unless_ok (rises (map seat_at (entry_bytes n b))) 25 _ m d in
+    let c = unless_ok (rises (map seat_at (entry_bytes n b))) Order _ m d in
     let w = with_entries_ok (head_at b) _ m c.1 in
     record {
       passes = h.0;

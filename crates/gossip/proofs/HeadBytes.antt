@@ -6,6 +6,7 @@ use Rattle.gossip.specs.Lattices.{Kind}
 use Rattle.gossip.specs.Messages.{latest, origin, sound_head}
 use Rattle.gossip.specs.Numbers.{field, pieces, spell, Bytes}
 use Rattle.gossip.specs.declared.head.Head.{Head}
+use Rattle.gossip.specs.declared.refusal.Refusal.TheVariants.{Short, Form, Origin, Layout, Clock}
 use Rattle.gossip.proofs.NumberLaws.{bytes_drop, field_lt, field_one}
 use Rattle.gossip.proofs.Puts.{length-spell}
 use Rattle.gossip.proofs.Sound.{HeadParts, origin_parts, origin_whole, head_whole}
@@ -30,29 +31,29 @@ pub record HeadPasses (k : Kind) (b : List ℕ) : Type 0 where
 pub head_reads : (k : Kind) (b : List ℕ) → HeadPasses k b → decode_head k b ≡ Ok (head_at b)
 unfolding decode_head
 head_reads k b p =
-    passed _ 20 _ _ (le-leb _ _ (let l = p.long in omega arith))
-    (passed _ 21 _ _ (eq-eqb _ _ p.form)
-    (passed _ 22 _ _ (and_from _ _ (eq-eqb _ _ p.kind) p.origin)
-    (passed _ 23 _ _ (and_from _ _ (le-leb _ _ p.few) (and_from _ _ (eq-eqb _ _ p.timestamp) (and_from _ _ (eq-eqb _ _ p.entries) (and_from _ _ (eq-eqb _ _ p.written) (eq-eqb _ _ p.long)))))
-    (passed _ 24 _ _ (le-leb _ _ p.clock) refl))))
+    passed _ Short _ _ (le-leb _ _ (let l = p.long in omega arith))
+    (passed _ Form _ _ (eq-eqb _ _ p.form)
+    (passed _ Origin _ _ (and_from _ _ (eq-eqb _ _ p.kind) p.origin)
+    (passed _ Layout _ _ (and_from _ _ (le-leb _ _ p.few) (and_from _ _ (eq-eqb _ _ p.timestamp) (and_from _ _ (eq-eqb _ _ p.entries) (and_from _ _ (eq-eqb _ _ p.written) (eq-eqb _ _ p.long)))))
+    (passed _ Clock _ _ (le-leb _ _ p.clock) refl))))
 
--- a head that reads passed them, here by the numbers of their refusals
+-- a head that reads passed them
 pub head_read : (k : Kind) (b : List ℕ) (h : Head) → decode_head k b ≡ Ok h → HeadPasses k b × (head_at b ≡ h)
 unfolding decode_head
 head_read k b h e =
-    let a20 = unless_ok (leb 24 (length b)) 20 _ h e in
-    let a21 = unless_ok (eqb (get_or b 0 0) 1) 21 _ h a20.1 in
-    let a22 = unless_ok (eqb (get_or b 1 0) k.number && origin (get_or b 2 0) (get_or b 3 0)) 22 _ h a21.1 in
-    let a23 = unless_ok (layout (get_or b 2 0) (field 8 2 b) (field 10 2 b) (field 12 2 b) (field 14 2 b) (length b)) 23 _ h a22.1 in
-    let a24 = unless_ok (leb (field 16 8 b) latest) 24 _ h a23.1 in
-    let kind = and_parts (eqb (get_or b 1 0) k.number) _ a22.0 in
-    let few = and_parts (leb (field 8 2 b) 64) _ a23.0 in
+    let long = unless_ok (leb 24 (length b)) Short _ h e in
+    let formed = unless_ok (eqb (get_or b 0 0) 1) Form _ h long.1 in
+    let from = unless_ok (eqb (get_or b 1 0) k.number && origin (get_or b 2 0) (get_or b 3 0)) Origin _ h formed.1 in
+    let laid = unless_ok (layout (get_or b 2 0) (field 8 2 b) (field 10 2 b) (field 12 2 b) (field 14 2 b) (length b)) Layout _ h from.1 in
+    let timely = unless_ok (leb (field 16 8 b) latest) Clock _ h laid.1 in
+    let kind = and_parts (eqb (get_or b 1 0) k.number) _ from.0 in
+    let few = and_parts (leb (field 8 2 b) 64) _ laid.0 in
     let timestamp = and_parts (eqb (field 10 2 b) 24) _ few.1 in
     let entries = and_parts (eqb (field 12 2 b) (entries_at (get_or b 2 0))) _ timestamp.1 in
     let written = and_parts (eqb (field 14 2 b) (message_length (get_or b 2 0) (field 8 2 b))) _ entries.1 in
     let passes : HeadPasses k b
     = record {
-      form = eqb-true _ 1 a21.0;
+      form = eqb-true _ 1 formed.0;
       kind = eqb-true _ _ kind.0;
       origin = kind.1;
       few = leb-true _ 64 few.0;
@@ -60,9 +61,9 @@ head_read k b h e =
       entries = eqb-true _ _ entries.0;
       written = eqb-true _ _ written.0;
       long = eqb-true _ _ written.1;
-      clock = leb-true _ _ a24.0;
+      clock = leb-true _ _ timely.0;
     } in
-    (passes, cc a24.1)
+    (passes, cc timely.1)
 
 -- What is written
 module _ (k : Kind) (h : Head) (count : ℕ) (rest : List ℕ) where

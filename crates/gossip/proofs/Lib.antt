@@ -1,9 +1,11 @@
 pub mod Bools
+pub mod Arrays
 pub mod Loops
 pub mod Unless
 pub mod TimestampLaws
 pub mod TimestampSteps
 pub mod NumberLaws
+pub mod LittleEndian
 pub mod Spelling
 pub mod Puts
 pub mod Sound

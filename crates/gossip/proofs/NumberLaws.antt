@@ -1,15 +1,11 @@
 -- Laws of little-endian numbers, over the width.
-use Rattle.std.proofs.Common.{◌≡◌, ℕ, zero, suc, ◌+◌, ◌-◌, ◌*◌, ◌/◌, ◌%◌, ◌^◌, ◌<◌, ◌≤◌, List, [], ◌∷◌, ◌++◌, map, length, get_or, take, drop, set, sym, refl, ap, ◌∙◌, append_assoc, append-nil, mul-le-mul_right, suc-mul, add_comm, pow-suc, zero-mul, add-one, arith, length-drop, length-take, get_or-drop, take_all, drop-cons, drop-drop}
-use Rattle.std.proofs.lemmas.List.{take_more_set, map_push, get_or-map}
+use Rattle.std.proofs.Common.{◌≡◌, ℕ, zero, suc, ◌+◌, ◌*◌, ◌/◌, ◌%◌, ◌^◌, ◌<◌, ◌≤◌, List, [], ◌∷◌, ◌++◌, length, get_or, take, drop, sym, refl, ap, ◌∙◌, mul-le-mul_right, suc-mul, add_comm, pow-suc, zero-mul, add-one, arith, length-take, get_or-drop, drop-cons, drop-drop, length-append, take_at, drop_at}
+use Rattle.std.proofs.lemmas.List.{get_or-map}
 use native.Mathlib.Nat.{pow-le-pow_right}
+use Rattle.std.proofs.Math.Nat.{add-div_left, div-eq_of_lt, mul-div_left}
 use lib.ListN.{length-map}
 use Rattle.std.specs.List.{AllByRecursion as All}
-use Rattle.gossip.specs.Numbers.{number, bytes, field, pieces, counters, Bytes}
-
--- one byte more at the front
-pub number-drop : (b : List ℕ) (i : ℕ) → i < length b → number (drop i b) ≡ get_or b i 0 + 256 * number (drop (i + 1) b)
-unfolding number
-number-drop b i h = rw (add-one, drop-cons b i 0 h)
+use Rattle.gossip.specs.Numbers.{number, bytes, field, pieces, whole_pieces, counters, Bytes}
 
 pub bytes_tail : (x : ℕ) (b : List ℕ) → Bytes (x ∷ b) → Bytes b
 bytes_tail x b h i = h (suc i)
@@ -56,25 +52,6 @@ number_small b k h l =
     let p : number b < 256 ^ length b = number_lt b h in
     let q : 256 ^ length b ≤ 256 ^ k = pow-le-pow_right {n = 256} (omega arith) l in
     omega arith
-
--- one byte more written
-pub written_more : (out : List ℕ) (i k r : ℕ) (all : List ℕ) → i < length out
-    → take i out ++ bytes (suc k) r ≡ all → take (i + 1) (set out i (r % 256)) ++ bytes k (r / 256) ≡ all
-unfolding bytes
-written_more out i k r all h e = rw (take_more_set out i (r % 256) h, append_assoc) e
-
--- what is left of at most k + 1 bytes past the first of them
-pub number-drop_small : (b : List ℕ) (i k : ℕ) → Bytes b → length b - i ≤ k → number (drop i b) < 256 ^ k
-number-drop_small b i k h l =
-    let m : length (drop i b) ≤ k = simp length-drop (omega arith) in
-    number_small (drop i b) k (bytes_drop i b h) m
-
-pub written_all : (out : List ℕ) (i n r : ℕ) (all : List ℕ) → length out ≤ i → n ≤ i
-    → take i out ++ bytes (n - i) r ≡ all → out ≡ all
-unfolding bytes
-written_all out i n r all l m e =
-    let z : n - i ≡ 0 = omega arith in
-    sym (append-nil out) ∙ ap (λ t. t ++ []) (sym (take_all i out l)) ∙ ap (λ k. take i out ++ bytes k r) (sym z) ∙ e
 
 pub bytes_take : (k : ℕ) (b : List ℕ) → Bytes b → Bytes (take k b)
 bytes_take zero b h i = omega arith
@@ -126,11 +103,33 @@ pieces_more s (suc k) b =
     let f : suc k + 1 ≡ suc (k + 1) = omega arith in
     rw f (ap (λ t. take s b ∷ t) (r ∙ ap (λ j. pieces s k (drop s b) ++ take s j ∷ []) (drop-drop (k * s) s b ∙ ap (λ j. drop j b) e)))
 
-pub counters_more : (k : ℕ) (b : List ℕ) → counters (k + 1) b ≡ counters k b ++ field (k * 4) 4 b ∷ []
-counters_more k b = ap (map number) (pieces_more 4 k b) ∙ map_push number (pieces 4 k b) (take 4 (drop (k * 4) b))
+-- the pieces of bytes of which a whole piece is the front
+pub whole_pieces-append : (s : ℕ) (p b : List ℕ) → 0 < s → length p ≡ s → whole_pieces s (p ++ b) ≡ p ∷ whole_pieces s b
+unfolding pieces
+whole_pieces-append s p b h l =
+    let k : length (p ++ b) / s ≡ suc (length b / s) = simp length-append (ap (λ (j : ℕ). (j + length b) / s) l ∙ add-div_left (length b) h ∙ add-one (length b / s)) in
+    rw (k, take_at p b s l, drop_at p b s l)
+
+-- one turn of a loop over them: from r to r', with the piece p
+pub whole_pieces-next : (s : ℕ) (r p r' : List ℕ) → 0 < s → r ≡ p ++ r' → length p ≡ s → whole_pieces s r ≡ p ∷ whole_pieces s r'
+whole_pieces-next s r p r' h e l = ap (whole_pieces s) e ∙ whole_pieces-append s p r' h l
+
+-- k pieces, and nothing else
+pub whole_pieces-count : (s k : ℕ) (b : List ℕ) → 0 < s → length b ≡ k * s → whole_pieces s b ≡ pieces s k b
+whole_pieces-count s k b h l = let e : length b / s ≡ k = ap (λ (j : ℕ). j / s) l ∙ mul-div_left k h in ap (λ (j : ℕ). pieces s j b) e
+
+-- fewer bytes than a piece has make none
+pub whole_pieces_none : (s : ℕ) (b : List ℕ) → length b < s → whole_pieces s b ≡ []
+unfolding pieces
+whole_pieces_none s b h = rw (div-eq_of_lt h)
 
 pub length-counters : (k : ℕ) (b : List ℕ) → length (counters k b) ≡ k
 length-counters k b = length-map (pieces 4 k b) number ∙ length-pieces 4 k b
+
+pub counter-at : (n : ℕ) (b : List ℕ) (i : ℕ) → i < n → get_or (counters n b) i 0 ≡ field (i * 4) 4 b
+counter-at n b i h =
+    let l = length-pieces 4 n b in
+    get_or-map number (pieces 4 n b) i [] 0 (omega arith) ∙ ap number (pieces-at 4 n b i [] h)
 
 pub four : (xs : List ℕ) → All (λ x. length (bytes 4 x) ≡ 4) xs
 four [] = tt
@@ -142,13 +141,3 @@ piece_within i k s h =
     let e : suc i * s ≡ i * s + s = suc-mul i s in
     let m : suc i * s ≤ k * s = mul-le-mul_right s h in
     omega arith
-
--- what is read of each piece
-module _ (f : List ℕ → ℕ) (s k : ℕ) (b : List ℕ) where
-  pub length_read : length (map f (pieces s k b)) ≡ k
-  length_read = length-map (pieces s k b) f ∙ length-pieces s k b
-
-  pub read_at : (i : ℕ) (p : List ℕ) → i < k → p ≡ get_or (pieces s k b) i p → get_or (map f (pieces s k b)) i 0 ≡ f p
-  read_at i p h e =
-      let l = length-pieces s k b in
-      get_or-map f (pieces s k b) i p 0 (omega arith) ∙ ap f (sym e)

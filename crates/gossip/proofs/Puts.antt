@@ -3,7 +3,7 @@ use Rattle.std.proofs.Common.{◌≡◌, ℕ, zero, suc, ◌+◌, ◌<◌, ◌�
 use lib.Seq.{drop-append-add}
 use borrow.Rule.Slice.PartMut.{put_mid}
 use Rattle.std.proofs.lemmas.List.{drop_all}
-use Rattle.gossip.specs.Numbers.{bytes, spell, total, put_at, joined}
+use Rattle.gossip.specs.Numbers.{spell, total, put_at, joined}
 use Rattle.gossip.proofs.NumberLaws.{length-bytes}
 
 -- nothing written
@@ -37,37 +37,6 @@ pub put_whole : (xs o : List ℕ) → length xs ≡ length o → put_at 0 xs o �
 put_whole xs o l =
     let d : drop (0 + length xs) o ≡ [] = drop_all (0 + length xs) o (omega arith) in
     ap (λ z. xs ++ z) d ∙ append-nil xs
-
--- widths and numbers, one more of each
-pub total_more : (ws : List ℕ) (i : ℕ) → i < length ws → total (take (i + 1) ws) ≡ total (take i ws) + get_or ws i 0
-total_more [] i h = absurd (omega arith)
-total_more (w ∷ ws) zero h = omega arith
-total_more (w ∷ ws) (suc i) h =
-    let r = total_more ws i (omega arith) in
-    let e : suc i + 1 ≡ suc (i + 1) = omega arith in
-    rw e (omega arith)
-
-pub total-take : (ws : List ℕ) (i : ℕ) → total (take i ws) ≤ total ws
-total-take ws zero = omega arith
-total-take [] (suc i) = omega arith
-total-take (w ∷ ws) (suc i) = let r = total-take ws i in omega arith
-
--- the i-th of them ends within them all
-pub total_within : (ws : List ℕ) (i : ℕ) → i < length ws → total (take i ws) + get_or ws i 0 ≤ total ws
-total_within ws i h =
-    let a = total_more ws i h in
-    let b = total-take ws (i + 1) in
-    omega arith
-
-pub spell_more : (ws vs : List ℕ) (i : ℕ) → i < length ws → i < length vs → spell (take (i + 1) ws) (take (i + 1) vs) ≡ spell (take i ws) (take i vs) ++ bytes (get_or ws i 0) (get_or vs i 0)
-unfolding spell
-spell_more [] vs i h k = absurd (omega arith)
-spell_more (w ∷ ws) [] i h k = absurd (omega arith)
-spell_more (w ∷ ws) (v ∷ vs) zero h k = append-nil (bytes w v)
-spell_more (w ∷ ws) (v ∷ vs) (suc i) h k =
-    let r = spell_more ws vs i (omega arith) (omega arith) in
-    let e : suc i + 1 ≡ suc (i + 1) = omega arith in
-    rw (e, append_assoc) (ap (λ t. bytes w v ++ t) r)
 
 pub length-spell : (ws vs : List ℕ) → length ws ≡ length vs → length (spell ws vs) ≡ total ws
 unfolding spell

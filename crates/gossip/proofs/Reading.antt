@@ -1,16 +1,20 @@
 -- The steps of the reader, test by test and entry by entry.
-use Rattle.std.proofs.Common.{◌≡◌, ℕ, ◌+◌, ◌-◌, ◌<◌, ◌≤◌, Bool, true, false, cond, ◌&&◌, eqb, leb, List, [], ◌∷◌, ◌++◌, map, length, get_or, take, drop, set, Some, None, Ok, Err, Option, Result, sym, refl, ap, ◌∙◌, append_assoc, append-nil, arith}
-use Rattle.std.proofs.lemmas.List.{take_rest, drop-drop, drop_more, take_more_set, drop_all}
-use Rattle.std.proofs.lemmas.Bool.{and_parts, and_from, and_left, and_right, leb-true, eqb-true, le-leb, lt-leb, eq-eqb, ne_eqb}
+use Rattle.std.proofs.Common.{◌≡◌, ℕ, ◌+◌, ◌-◌, ◌*◌, ◌%◌, ◌<◌, ◌≤◌, Bool, true, false, cond, ◌&&◌, eqb, leb, ◌⊎◌, inl, inr, List, [], ◌∷◌, ◌++◌, map, length, get_or, take, drop, Some, None, Ok, Err, Option, Result, sym, refl, ap, ◌∙◌, append_assoc, append-nil, add-one, suc-mul, mul-le-mul_right, length-append, length-drop, arith}
+use Rattle.std.proofs.Math.Nat.{mul-mod_left}
+use Rattle.std.proofs.lemmas.List.{take_rest, drop-drop}
+use Rattle.std.proofs.lemmas.Bool.{cases_lt, and_parts, and_from, and_left, and_right, leb-true, eqb-true, le-leb, lt-leb, eq-eqb, ne_eqb}
 use Rattle.gossip.specs.Format.{decode, entry_bytes, entry_length, decode_head, head_at, layout, entries_at, message_length, timestamp_at, marked, state_at, value_at, tombstone_at, seat_at, alongside, entries_of, with_entries, decode_entries}
 use Rattle.gossip.specs.Lattices.{Kind}
 use Rattle.gossip.specs.Messages.{origin, latest, rises, seats}
-use Rattle.gossip.specs.Numbers.{number, field, pieces}
+use Rattle.gossip.specs.Numbers.{number, field, whole_pieces}
 use Rattle.gossip.specs.Refusals.{unless, and_then}
 use Rattle.gossip.specs.declared.entry.Entry.{Entry}
 use Rattle.gossip.specs.declared.entry.State.{State}
 use Rattle.gossip.specs.declared.head.Head.{Head}
 use Rattle.gossip.specs.declared.timestamp.Timestamp.{Timestamp}
+use Rattle.gossip.specs.declared.refusal.Refusal.{Refusal}
+use Rattle.gossip.specs.declared.refusal.Refusal.TheVariants.{Short, Form, Origin, Layout, Clock, Order}
+use Rattle.gossip.proofs.NumberLaws.{whole_pieces-count, whole_pieces-next, whole_pieces_none}
 use Rattle.gossip.proofs.Unless.{passed, failed}
 
 -- The head
@@ -28,55 +32,55 @@ module _ (k : Kind) (b : List ℕ) where
   abbrev is_laid_out : Bool
   is_laid_out = layout (get_or b 2 0) (field 8 2 b) (field 10 2 b) (field 12 2 b) (field 14 2 b) (length b)
 
-  abbrev from24 : Result Head ℕ
-  from24 = unless (leb (field 16 8 b) latest) 24 (Ok (head_at b))
+  abbrev from_clock : Result Head Refusal
+  from_clock = unless (leb (field 16 8 b) latest) Clock (Ok (head_at b))
 
-  abbrev from23 : Result Head ℕ
-  from23 = unless is_laid_out 23 from24
+  abbrev from_layout : Result Head Refusal
+  from_layout = unless is_laid_out Layout from_clock
 
-  abbrev from22 : Result Head ℕ
-  from22 = unless (eqb (get_or b 1 0) k.number && origin (get_or b 2 0) (get_or b 3 0)) 22 from23
+  abbrev from_origin : Result Head Refusal
+  from_origin = unless (eqb (get_or b 1 0) k.number && origin (get_or b 2 0) (get_or b 3 0)) Origin from_layout
 
-  abbrev from21 : Result Head ℕ
-  from21 = unless (eqb (get_or b 0 0) 1) 21 from22
+  abbrev from_form : Result Head Refusal
+  from_form = unless (eqb (get_or b 0 0) 1) Form from_origin
 
-  all_tests : decode_head k b ≡ unless (leb 24 (length b)) 20 from21
+  all_tests : decode_head k b ≡ unless (leb 24 (length b)) Short from_form
   unfolding decode_head
   all_tests = refl
 
-  pub short : length b < 24 → Err 20 ≡ decode_head k b
-  short h = sym (all_tests ∙ failed _ 20 from21 (lt-leb 24 _ h))
+  pub short : length b < 24 → Err Short ≡ decode_head k b
+  short h = sym (all_tests ∙ failed _ Short from_form (lt-leb 24 _ h))
 
 -- each refusal follows from the tests before it and its own
 module _ (k : Kind) (b : List ℕ) (long : 24 ≤ length b) where
-  at21 : decode_head k b ≡ from21 k b
-  at21 = all_tests k b ∙ passed _ 20 _ _ (le-leb 24 _ long) refl
+  at_form : decode_head k b ≡ from_form k b
+  at_form = all_tests k b ∙ passed _ Short _ _ (le-leb 24 _ long) refl
 
-  pub misformed : (get_or b 0 0 ≡ 1 → ⊥) → Err 21 ≡ decode_head k b
-  misformed f = sym (at21 ∙ failed _ 21 (from22 k b) (ne_eqb _ 1 f))
+  pub misformed : (get_or b 0 0 ≡ 1 → ⊥) → Err Form ≡ decode_head k b
+  misformed f = sym (at_form ∙ failed _ Form (from_origin k b) (ne_eqb _ 1 f))
 
 module _ (k : Kind) (b : List ℕ) (long : 24 ≤ length b) (formed : get_or b 0 0 ≡ 1) where
-  at22 : decode_head k b ≡ from22 k b
-  at22 = at21 k b long ∙ passed _ 21 _ _ (eq-eqb _ 1 formed) refl
+  at_origin : decode_head k b ≡ from_origin k b
+  at_origin = at_form k b long ∙ passed _ Form _ _ (eq-eqb _ 1 formed) refl
 
-  pub other_kind : (get_or b 1 0 ≡ k.number → ⊥) → Err 22 ≡ decode_head k b
-  other_kind n = sym (at22 ∙ failed _ 22 (from23 k b) (and_left _ _ (ne_eqb _ _ n)))
+  pub other_kind : (get_or b 1 0 ≡ k.number → ⊥) → Err Origin ≡ decode_head k b
+  other_kind n = sym (at_origin ∙ failed _ Origin (from_layout k b) (and_left _ _ (ne_eqb _ _ n)))
 
-  pub no_origin : origin (get_or b 2 0) (get_or b 3 0) ≡ false → Err 22 ≡ decode_head k b
-  no_origin o = sym (at22 ∙ failed _ 22 (from23 k b) (and_right _ _ o))
+  pub no_origin : origin (get_or b 2 0) (get_or b 3 0) ≡ false → Err Origin ≡ decode_head k b
+  no_origin o = sym (at_origin ∙ failed _ Origin (from_layout k b) (and_right _ _ o))
 
 module _ (k : Kind) (b : List ℕ) (long : 24 ≤ length b) (formed : get_or b 0 0 ≡ 1) (kind : get_or b 1 0 ≡ k.number) (from : origin (get_or b 2 0) (get_or b 3 0) ≡ true) where
-  at23 : decode_head k b ≡ from23 k b
-  at23 = at22 k b long formed ∙ passed _ 22 _ _ (and_from _ _ (eq-eqb _ _ kind) from) refl
+  at_layout : decode_head k b ≡ from_layout k b
+  at_layout = at_origin k b long formed ∙ passed _ Origin _ _ (and_from _ _ (eq-eqb _ _ kind) from) refl
 
-  pub mislaid : is_laid_out k b ≡ false → Err 23 ≡ decode_head k b
-  mislaid l = sym (at23 ∙ failed _ 23 (from24 k b) l)
+  pub mislaid : is_laid_out k b ≡ false → Err Layout ≡ decode_head k b
+  mislaid l = sym (at_layout ∙ failed _ Layout (from_clock k b) l)
 
-  pub too_late : is_laid_out k b ≡ true → latest < field 16 8 b → Err 24 ≡ decode_head k b
-  too_late l c = sym (at23 ∙ passed _ 23 _ _ l (failed _ 24 (Ok (head_at b)) (lt-leb _ _ c)))
+  pub too_late : is_laid_out k b ≡ true → latest < field 16 8 b → Err Clock ≡ decode_head k b
+  too_late l c = sym (at_layout ∙ passed _ Layout _ _ l (failed _ Clock (Ok (head_at b)) (lt-leb _ _ c)))
 
   pub head_read : is_laid_out k b ≡ true → field 16 8 b ≤ latest → Ok (head_at b) ≡ decode_head k b
-  head_read l c = sym (at23 ∙ passed _ 23 _ _ l (passed _ 24 _ _ (le-leb _ _ c) refl))
+  head_read l c = sym (at_layout ∙ passed _ Layout _ _ l (passed _ Clock _ _ (le-leb _ _ c) refl))
 
 -- the layout test on what the code reads behind the first four bytes is that of the bytes
 pub laid_out_is : (k : Kind) (b : List ℕ) {n count t e w : ℕ} {r : Bool} → r ≡ layout n count t e w (length b) → n ≡ get_or b 2 0
@@ -130,40 +134,49 @@ state_none k n top p a b = rw (ne_eqb _ 1 a, ne_eqb _ 2 b)
 
 -- entries that are read, before those that are still to come
 abbrev pub before : List Entry → Option (List Entry) → Option (List Entry)
-before xs (Some ys) = Some (xs ++ ys)
-before xs None = None
-
--- before the first entry, all are to come
-pub reading_start : (o : Option (List Entry)) → before [] o ≡ o
-reading_start (Some ys) = refl
-reading_start None = refl
-
-module _ (k : Kind) (n : ℕ) (top : Timestamp) (ps : List (List ℕ)) (es : List Entry) (i : ℕ) where
-  -- the first i entries are read: what is left decides the whole
-  abbrev pub Reading : Type 0
-  Reading = before (take i es) (entries_of k n top (drop i ps)) ≡ entries_of k n top ps
-
-  next : (p : List ℕ) → i < length ps → p ≡ get_or ps i p → entries_of k n top (drop i ps) ≡ alongside (state_at k n top p) (seat_at p) (entries_of k n top (drop (i + 1) ps))
-  next p h e = ap (entries_of k n top) (drop_more ps i p h ∙ ap (λ x. x ∷ drop (i + 1) ps) (sym e))
-
-  pub reading_stops : (p : List ℕ) → i < length ps → p ≡ get_or ps i p → None ≡ state_at k n top p → Reading → None ≡ entries_of k n top ps
-  reading_stops p h e f r = ap (λ x. before (take i es) (alongside x (seat_at p) (entries_of k n top (drop (i + 1) ps)))) f ∙ sym (ap (before (take i es)) (next p h e)) ∙ r
-
-  pub reading_ends : length ps ≤ i → Reading → Some (take i es) ≡ entries_of k n top ps
-  reading_ends h r = ap Some (sym (append-nil (take i es))) ∙ sym (ap (λ x. before (take i es) (entries_of k n top x)) (drop_all i ps h)) ∙ r
+before es (Some fs) = Some (es ++ fs)
+before es None = None
 
 -- one entry more before the others
-before_more : (xs : List Entry) (s : State) (seat : ℕ) (o : Option (List Entry)) → before (xs ++ record { seat = seat; state = s } ∷ []) o ≡ before xs (alongside (Some s) seat o)
-before_more xs s seat (Some ys) = ap Some (append_assoc xs _ ys)
-before_more xs s seat None = refl
+pub before_more : (es : List Entry) (s : State) (seat : ℕ) (o : Option (List Entry)) → before (es ++ record { seat = seat; state = s } ∷ []) o ≡ before es (alongside (Some s) seat o)
+before_more es s seat (Some fs) = ap Some (append_assoc es _ fs)
+before_more es s seat None = refl
 
-pub reading_more : (k : Kind) (n : ℕ) (top : Timestamp) (ps : List (List ℕ)) (es : List Entry) (i : ℕ) (p : List ℕ) (s : State) (seat : ℕ) → i < length ps → i < length es → p ≡ get_or ps i p
-    → Some s ≡ state_at k n top p → seat ≡ seat_at p → Reading k n top ps es i → Reading k n top ps (set es i record { seat = seat; state = s }) (i + 1)
-reading_more k n top ps es i p s seat h l e f g r =
-    let rest = entries_of k n top (drop (i + 1) ps) in
-    ap (λ xs. before xs rest) (take_more_set es i record { seat = seat; state = s } l) ∙ before_more (take i es) s seat rest
-    ∙ ap (λ x. before (take i es) (alongside x seat rest)) f ∙ ap (λ x. before (take i es) (alongside (state_at k n top p) x rest)) g
-    ∙ sym (ap (before (take i es)) (next k n top ps es i p h e)) ∙ r
+-- one turn of a loop over the pieces: es are read, the bytes r are left, and p is the piece at their front
+module _ (k : Kind) (n : ℕ) (top : Timestamp) (all : List (List ℕ)) (es : List Entry) (r : List ℕ) (so_far : before es (entries_of k n top (whole_pieces (entry_length n) r)) ≡ entries_of k n top all) where
+  module _ (p r' : List ℕ) (cut : r ≡ p ++ r') (long : length p ≡ entry_length n) where
+    next : before es (alongside (state_at k n top p) (seat_at p) (entries_of k n top (whole_pieces (entry_length n) r'))) ≡ entries_of k n top all
+    next = sym (ap (λ ps. before es (entries_of k n top ps)) (whole_pieces-next (entry_length n) r p r' (omega arith) cut long)) ∙ so_far
+
+    -- a piece that spells no entry stops it
+    pub reading_stops : None ≡ state_at k n top p → None ≡ entries_of k n top all
+    reading_stops e = ap (λ s. before es (alongside s (seat_at p) (entries_of k n top (whole_pieces (entry_length n) r')))) e ∙ next
+
+    -- another adds its entry
+    pub reading_more : (s : State) (seat : ℕ) → Some s ≡ state_at k n top p → seat ≡ seat_at p
+        → before (es ++ record { seat = seat; state = s } ∷ []) (entries_of k n top (whole_pieces (entry_length n) r')) ≡ entries_of k n top all
+    reading_more s seat e f =
+        let rest = entries_of k n top (whole_pieces (entry_length n) r') in
+        before_more es s seat rest ∙ ap (λ x. before es (alongside x seat rest)) e ∙ ap (λ x. before es (alongside (state_at k n top p) x rest)) f ∙ next
+
+  -- where no whole piece is left, all are read
+  pub reading_ends : length r < entry_length n → Some es ≡ entries_of k n top all
+  reading_ends h = ap Some (sym (append-nil es)) ∙ sym (ap (λ ps. before es (entries_of k n top ps)) (whole_pieces_none (entry_length n) r h)) ∙ so_far
+
+-- another entry takes the room of its piece
+pub room_more : (m s room : ℕ) (r p r' : List ℕ) → r ≡ p ++ r' → length p ≡ s → m * s + length r ≤ room → (m + 1) * s + length r' ≤ room
+room_more m s room r p r' cut long h =
+    let e : (m + 1) * s ≡ m * s + s = ap (λ (j : ℕ). j * s) (add-one m) ∙ suc-mul m s in
+    let l : length r ≡ length p + length r' = ap length cut ∙ length-append p r' in
+    omega arith
+
+-- entries that take at most the room of 64 are at most 64
+pub few_entries : (n count : ℕ) → count * entry_length n ≤ 64 * entry_length n → count ≤ 64
+few_entries n count h = pick (cases_lt 64 count)
+  where
+    pick : (64 < count) ⊎ (count ≤ 64) → count ≤ 64
+    pick (inl l) = let m : 65 * entry_length n ≤ count * entry_length n = mul-le-mul_right (entry_length n) l in absurd (omega arith)
+    pick (inr l) = l
 
 -- the seats of the entries that are read are those in the pieces
 pub seats_read : (k : Kind) (n : ℕ) (top : Timestamp) (ps : List (List ℕ)) (es : List Entry) → entries_of k n top ps ≡ Some es → seats es ≡ map seat_at ps
@@ -181,7 +194,7 @@ seats_read k n top (p ∷ ps) es e = split (state_at k n top p) (entries_of k n 
 
 -- the message with a head, once the seats rise
 module _ (k : Kind) (h : Head) (ps : List (List ℕ)) where
-  pub falling : rises (map seat_at ps) ≡ false → Err 25 ≡ decode_entries k h ps
+  pub falling : rises (map seat_at ps) ≡ false → Err Order ≡ decode_entries k h ps
   unfolding decode_entries
   falling r = rw r
 
@@ -193,15 +206,26 @@ module _ (k : Kind) (h : Head) (ps : List (List ℕ)) where
 
 module _ (k : Kind) (b : List ℕ) where
   -- a refusal of the head is one of the message
-  pub refused_head : (e : ℕ) → Err e ≡ decode_head k b → Err e ≡ decode k b
+  pub refused_head : (e : Refusal) → Err e ≡ decode_head k b → Err e ≡ decode k b
   unfolding decode
   refused_head e r = ap (λ x. and_then x (λ h. decode_entries k h (entry_bytes h.n b))) r
 
   -- behind a head that reads, the entries decide
-  pub with-head : (h : Head) (count : ℕ) → Ok h ≡ decode_head k b → count ≡ field 8 2 b
-      → decode_entries k h (pieces (entry_length h.n) count (take (length b - entries_at h.n) (drop (entries_at h.n) b))) ≡ decode k b
+  pub with-head : (h : Head) → Ok h ≡ decode_head k b → length b ≡ message_length h.n (field 8 2 b)
+      → decode_entries k h (whole_pieces (entry_length h.n) (take (length b - entries_at h.n) (drop (entries_at h.n) b))) ≡ decode k b
   unfolding decode
-  with-head h count r n =
-      ap (λ t. decode_entries k h (pieces (entry_length h.n) count t)) (take_rest b (entries_at h.n))
-      ∙ ap (λ c. decode_entries k h (pieces (entry_length h.n) c (drop (entries_at h.n) b))) n
+  with-head h r l =
+      ap (λ t. decode_entries k h (whole_pieces (entry_length h.n) t)) (take_rest b (entries_at h.n))
+      ∙ ap (decode_entries k h) (whole_pieces-count (entry_length h.n) (field 8 2 b) (drop (entries_at h.n) b) (omega arith) (simp length-drop (omega arith)))
       ∙ ap (λ x. and_then x (λ h. decode_entries k h (entry_bytes h.n b))) r
+
+-- behind the head of a message stand whole entries, as many as it counts
+module _ (n count : ℕ) (b : List ℕ) (l : length b ≡ message_length n count) where
+  pub length-entries : length (take (length b - entries_at n) (drop (entries_at n) b)) ≡ count * entry_length n
+  length-entries = rw take_rest (simp length-drop (omega arith))
+
+  pub entries_are_whole : length (take (length b - entries_at n) (drop (entries_at n) b)) % entry_length n ≡ 0
+  entries_are_whole = ap (λ (j : ℕ). j % entry_length n) length-entries ∙ mul-mod_left count (entry_length n)
+
+  pub entries_are_few : count ≤ 64 → length (take (length b - entries_at n) (drop (entries_at n) b)) ≤ 64 * entry_length n
+  entries_are_few h = let m : count * entry_length n ≤ 64 * entry_length n = mul-le-mul_right (entry_length n) h in omega (arith, length-entries)

@@ -1,34 +1,36 @@
 -- What a sound message says part by part, and how it stays sound.
-use Rattle.std.proofs.Common.{◌≡◌, ℕ, suc, ◌-◌, ◌^◌, ◌<◌, ◌≤◌, true, ◌&&◌, eqb, ltb, leb, List, [], ◌∷◌, ◌++◌, length, get_or, take, sym, refl, ap, ◌∙◌, arith}
+use Rattle.std.proofs.Common.{◌≡◌, ℕ, suc, ◌-◌, ◌^◌, ◌<◌, ◌≤◌, true, ◌&&◌, eqb, ltb, leb, List, [], ◌∷◌, ◌++◌, length, Some, None, Option, sym, refl, ap, ◌∙◌, arith}
 use native.Mathlib.Numerals.{unary_clauses}
-use Rattle.std.proofs.lemmas.List.{get_or-map, get_or-take, length-take-le, length-map, length_push, map_push}
+use Rattle.std.specs.List.{list_all, slice_get}
+use Rattle.std.proofs.lemmas.List.{length_push, map_push}
 use Rattle.std.proofs.lemmas.Bool.{and_parts, and_from, leb-true, le-leb, ltb-true, lt-ltb}
 use Rattle.gossip.specs.Messages.{Message, rises, seats, sound, sound_head, sound_entry, wide_timestamp, wide_state, allowed, origin, latest}
-use Rattle.gossip.specs.Numbers.{every}
-use Rattle.gossip.specs.Timestamps.{under, zero_from}
+use Rattle.gossip.specs.Timestamps.{group_size, under, zero_from}
 use Rattle.gossip.specs.declared.entry.Entry.{Entry}
 use Rattle.gossip.specs.declared.head.Head.{Head}
 use Rattle.gossip.specs.declared.timestamp.Timestamp.{Timestamp}
 use Rattle.gossip.proofs.Loops.{every_push}
 use Rattle.gossip.proofs.Bools.{and_true}
 
--- a number behind rising ones: the last of them decides
-pub rises_push : (xs : List ℕ) (x : ℕ) → rises xs ≡ true → 0 < length xs → ltb (get_or xs (length xs - 1) 0) x ≡ rises (xs ++ x ∷ [])
-rises_push [] x e h = absurd (omega arith)
-rises_push (y ∷ []) x e h = sym (and_true (ltb y x))
-rises_push (y ∷ (z ∷ zs)) x e h =
-    let a = and_parts (ltb y z) (rises (z ∷ zs)) e in
-    simp unary_clauses (rw a.0 (simp unary_clauses at (rises_push (z ∷ zs) x a.1 (omega arith))))
+-- a seat behind rising ones: the last of them decides
+pub rises_last : (es : List Entry) (e : Entry) (seat : ℕ) → Some e ≡ slice_get es (length es - 1) → rises (seats es) ≡ true → ltb e.seat seat ≡ rises (seats es ++ seat ∷ [])
+rises_last [] e seat l r = absurd (let z : ◌≡◌ {A = Option Entry} (Some e) None = l in cc)
+rises_last (y ∷ []) e seat l r = let same : e ≡ y = cc in ap (λ (d : Entry). ltb d.seat seat) same ∙ sym (and_true (ltb y.seat seat))
+rises_last (y ∷ (z ∷ zs)) e seat l r =
+    let a = and_parts (ltb y.seat z.seat) (rises (seats (z ∷ zs))) r in
+    let l' : Some e ≡ slice_get (z ∷ zs) (length (z ∷ zs) - 1) = simp unary_clauses (simp unary_clauses at l) in
+    rw a.0 (rises_last (z ∷ zs) e seat l' a.1)
 
--- the last of the first k entries
-pub last_seat : (es : List Entry) (k : ℕ) (d : Entry) → 0 < k → k ≤ length es → get_or (seats (take k es)) (length (seats (take k es)) - 1) 0 ≡ (get_or es (k - 1) d).seat
-last_seat es k d h l =
-    let n : length (seats (take k es)) ≡ k = length-map (take k es) (λ e. e.seat) ∙ length-take-le k es l in
-    let m = length-take-le k es l in
-    ap (λ j. get_or (seats (take k es)) (j - 1) 0) n ∙ get_or-map (λ e. e.seat) (take k es) (k - 1) d 0 (omega arith) ∙ ap (λ (e : Entry). e.seat) (get_or-take k es (k - 1) d (omega arith))
+-- where there is no last entry, there is none
+pub no_last : (es : List Entry) → ◌≡◌ {A = Option Entry} None (slice_get es (length es - 1)) → es ≡ []
+no_last [] l = refl
+no_last (y ∷ []) l = absurd (let z : ◌≡◌ {A = Option Entry} None (Some y) = l in cc)
+no_last (y ∷ (z ∷ zs)) l =
+    let l' : ◌≡◌ {A = Option Entry} None (slice_get (z ∷ zs) (length (z ∷ zs) - 1)) = simp unary_clauses (simp unary_clauses at l) in
+    absurd (let e : z ∷ zs ≡ [] = no_last (z ∷ zs) l' in cc)
 
 -- what is at or under a timestamp of narrow parts has narrow parts
-pub narrow_under : (w : ℕ) (s t : List ℕ) → under s t ≡ true → every (λ x. ltb x (suc w)) t ≡ true → every (λ x. ltb x (suc w)) s ≡ true
+pub narrow_under : (w : ℕ) (s t : List ℕ) → under s t ≡ true → list_all (λ x. ltb x (suc w)) t ≡ true → list_all (λ x. ltb x (suc w)) s ≡ true
 narrow_under w [] t u e = refl
 narrow_under w (x ∷ s) [] u e =
     let a = and_parts (leb x 0) (under s []) u in
@@ -36,7 +38,7 @@ narrow_under w (x ∷ s) [] u e =
     and_from (ltb x (suc w)) _ (lt-ltb x (suc w) (omega arith)) (narrow_under w s [] a.1 refl)
 narrow_under w (x ∷ s) (y ∷ t) u e =
     let a = and_parts (leb x y) (under s t) u in
-    let b = and_parts (ltb y (suc w)) (every (λ x. ltb x (suc w)) t) e in
+    let b = and_parts (ltb y (suc w)) (list_all (λ x. ltb x (suc w)) t) e in
     let l = leb-true x y a.0 in
     let m = ltb-true y (suc w) b.0 in
     and_from (ltb x (suc w)) _ (lt-ltb x (suc w) (omega arith)) (narrow_under w s t a.1 b.1)
@@ -56,7 +58,7 @@ pub record Parts (m : Message) : Type 0 where
   pub head : sound_head m.head ≡ true
   pub few : length m.entries ≤ 64
   pub rising : rises (seats m.entries) ≡ true
-  pub each : every (sound_entry m.head.timestamp) m.entries ≡ true
+  pub each : list_all (sound_entry m.head.timestamp) m.entries ≡ true
 
 pub parts : (m : Message) → sound m ≡ true → Parts m
 parts m s =
@@ -68,14 +70,17 @@ parts m s =
 pub whole : (m : Message) → Parts m → sound m ≡ true
 whole m p = and_from _ _ p.head (and_from _ _ (le-leb _ 64 p.few) (and_from _ _ p.rising p.each))
 
+pub group_size-parts : (n : ℕ) → group_size n ≡ true → (1 ≤ n) × (n ≤ 7)
+group_size-parts n e = let a = and_parts (leb 1 n) (leb n 7) e in (leb-true 1 n a.0, leb-true n 7 a.1)
+
 pub origin_parts : (n sender : ℕ) → origin n sender ≡ true → (1 ≤ n) × (n ≤ 7) × (sender < n)
 origin_parts n sender o =
-    let a = and_parts (leb 1 n) _ o in
-    let b = and_parts (leb n 7) _ a.1 in
-    (leb-true 1 n a.0, leb-true n 7 b.0, ltb-true sender n b.1)
+    let a = and_parts (group_size n) _ o in
+    let b = group_size-parts n a.0 in
+    (b.0, b.1, ltb-true sender n a.1)
 
 pub origin_whole : (n sender : ℕ) → 1 ≤ n → n ≤ 7 → sender < n → origin n sender ≡ true
-origin_whole n sender some most member = and_from _ _ (le-leb 1 n some) (and_from _ _ (le-leb n 7 most) (lt-ltb sender n member))
+origin_whole n sender some most member = and_from _ _ (and_from _ _ (le-leb 1 n some) (le-leb n 7 most)) (lt-ltb sender n member)
 
 -- the parts of a sound head
 pub record HeadParts (h : Head) : Type 0 where

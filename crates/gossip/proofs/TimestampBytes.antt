@@ -1,10 +1,11 @@
 -- Timestamps in bytes: the bytes spell the first n parts, and the parts behind these are 0.
 use Rattle.std.proofs.Common.{◌≡◌, ℕ, zero, suc, ◌+◌, ◌-◌, ◌*◌, ◌^◌, ◌≤◌, Bool, true, eqb, ltb, leb, List, [], ◌∷◌, ◌++◌, map, length, take, drop, replicate, sym, refl, ap, ◌∙◌, arith, length-append, length-drop, length-take-le, take_at}
+use Rattle.std.specs.List.{list_all}
 use lib.ListN.{length-replicate}
 use Rattle.std.proofs.lemmas.Bool.{and_parts, and_from, eqb-true, eq-eqb, leb-true, ltb-true, lt-ltb}
 use Rattle.gossip.specs.Format.{encode_timestamp, timestamp_at}
 use Rattle.gossip.specs.Messages.{wide_timestamp}
-use Rattle.gossip.specs.Numbers.{number, bytes, pieces, counters, every, Bytes}
+use Rattle.gossip.specs.Numbers.{number, bytes, pieces, counters, Bytes}
 use Rattle.gossip.specs.Timestamps.{under, padded, zero_from}
 use Rattle.gossip.specs.declared.timestamp.Timestamp.{Timestamp}
 use Rattle.gossip.proofs.NumberLaws.{number-bytes, bytes_drop, field_lt, four, length-counters}
@@ -60,25 +61,25 @@ length-padded s h = simp (length-append, length-replicate) (omega arith)
 
 -- Parts of 32 bits
 
-pub every_append : {X : Type 0} (p : X → Bool) (xs ys : List X) → every p xs ≡ true → every p ys ≡ true → every p (xs ++ ys) ≡ true
+pub every_append : {X : Type 0} (p : X → Bool) (xs ys : List X) → list_all p xs ≡ true → list_all p ys ≡ true → list_all p (xs ++ ys) ≡ true
 every_append p [] ys e f = f
-every_append p (x ∷ xs) ys e f = let a = and_parts (p x) (every p xs) e in and_from (p x) _ a.0 (every_append p xs ys a.1 f)
+every_append p (x ∷ xs) ys e f = let a = and_parts (p x) (list_all p xs) e in and_from (p x) _ a.0 (every_append p xs ys a.1 f)
 
-pub every_front : {X : Type 0} (p : X → Bool) (n : ℕ) (xs : List X) → every p xs ≡ true → every p (take n xs) ≡ true
+pub every_front : {X : Type 0} (p : X → Bool) (n : ℕ) (xs : List X) → list_all p xs ≡ true → list_all p (take n xs) ≡ true
 every_front p zero xs e = refl
 every_front p (suc n) [] e = refl
-every_front p (suc n) (x ∷ xs) e = let a = and_parts (p x) (every p xs) e in and_from (p x) _ a.0 (every_front p n xs a.1)
+every_front p (suc n) (x ∷ xs) e = let a = and_parts (p x) (list_all p xs) e in and_from (p x) _ a.0 (every_front p n xs a.1)
 
-narrow_zeros : (k : ℕ) → every (λ x. ltb x (2 ^ 32)) (replicate k 0) ≡ true
+narrow_zeros : (k : ℕ) → list_all (λ x. ltb x (2 ^ 32)) (replicate k 0) ≡ true
 narrow_zeros zero = refl
 narrow_zeros (suc k) = narrow_zeros k
 
-narrow_counters : (n : ℕ) (b : List ℕ) → Bytes b → every (λ x. ltb x (2 ^ 32)) (counters n b) ≡ true
+narrow_counters : (n : ℕ) (b : List ℕ) → Bytes b → list_all (λ x. ltb x (2 ^ 32)) (counters n b) ≡ true
 unfolding pieces
 narrow_counters zero b y = refl
 narrow_counters (suc n) b y = and_from _ _ (lt-ltb _ (2 ^ 32) (field_lt 0 4 b y)) (narrow_counters n (drop 4 b) (bytes_drop 4 b y))
 
-numbers_back : (xs : List ℕ) → every (λ x. ltb x (2 ^ 32)) xs ≡ true → map number (map (bytes 4) xs) ≡ xs
+numbers_back : (xs : List ℕ) → list_all (λ x. ltb x (2 ^ 32)) xs ≡ true → map number (map (bytes 4) xs) ≡ xs
 numbers_back [] e = refl
 numbers_back (x ∷ xs) e =
     let a = and_parts (ltb x (2 ^ 32)) _ e in

@@ -1,40 +1,9 @@
 -- At-or-under is a partial order, and the merge is its least upper bound. Assumes nothing.
-use Rattle.std.proofs.Common.{◌≡◌, ℕ, zero, suc, ◌≤◌, max, true, ◌&&◌, eqb, leb, ◌⊎◌, List, [], ◌∷◌, length, take, replicate, sym, refl, ap, ◌∙◌, arith}
-use Rattle.std.proofs.lemmas.Bool.{and_parts, and_from, leb-true, le-leb, lt-leb, eqb-true, ne_eqb}
+use Rattle.std.proofs.Common.{◌≡◌, ℕ, zero, suc, ◌≤◌, max, true, ◌&&◌, eqb, leb, ◌⊎◌, List, [], ◌∷◌, length, take, sym, refl, ap, arith}
+use Rattle.std.proofs.lemmas.Bool.{and_parts, and_from, le-leb, eqb-true}
 use Rattle.gossip.specs.Timestamps.{under, merged, part, zero_from}
+use Rattle.gossip.specs.UnderLemmas.{under-part, part-under, under_refl, under_trans, under_antisym}
 use Rattle.gossip.specs.TimestampLaws.{Order, Join}
-
--- what the test tells, part by part
-pub under-part : (s t : List ℕ) → under s t ≡ true → (p : ℕ) → part s p ≤ part t p
-under-part [] t h p = omega arith
-under-part (x ∷ s) [] h zero = leb-true x 0 (and_parts (leb x 0) (under s []) h).0
-under-part (x ∷ s) [] h (suc p) = under-part s [] (and_parts (leb x 0) (under s []) h).1 p
-under-part (x ∷ s) (y ∷ t) h zero = leb-true x y (and_parts (leb x y) (under s t) h).0
-under-part (x ∷ s) (y ∷ t) h (suc p) = under-part s t (and_parts (leb x y) (under s t) h).1 p
-
-pub part-under : (s t : List ℕ) → ((p : ℕ) → part s p ≤ part t p) → under s t ≡ true
-part-under [] t f = refl
-part-under (x ∷ s) [] f = and_from (leb x 0) (under s []) (le-leb x 0 (f 0)) (part-under s [] (λ p. f (suc p)))
-part-under (x ∷ s) (y ∷ t) f = and_from (leb x y) (under s t) (le-leb x y (f 0)) (part-under s t (λ p. f (suc p)))
-
-pub under_refl : (s : List ℕ) → under s s ≡ true
-under_refl s = part-under s s (λ p. omega arith)
-
-pub under_trans : (s t u : List ℕ) → under s t ≡ true → under t u ≡ true → under s u ≡ true
-under_trans s t u h k = part-under s u (λ p. omega (arith, under-part s t h p, under-part t u k p))
-
-pub under_antisym : (s t : List ℕ) → length s ≡ length t → under s t ≡ true → under t s ≡ true → s ≡ t
-under_antisym [] [] e h k = refl
-under_antisym [] (y ∷ t) e h k = absurd (omega arith)
-under_antisym (x ∷ s) [] e h k = absurd (omega arith)
-under_antisym (x ∷ s) (y ∷ t) e h k =
-    let a = and_parts (leb x y) (under s t) h in
-    let b = and_parts (leb y x) (under t s) k in
-    let l = leb-true x y a.0 in
-    let m = leb-true y x b.0 in
-    let v : x ≡ y = omega arith in
-    let w = under_antisym s t (omega arith) a.1 b.1 in
-    cc
 
 pub part-merged : (s t : List ℕ) (p : ℕ) → part (merged s t) p ≡ max (part s p) (part t p)
 part-merged [] t p = omega arith
@@ -90,16 +59,6 @@ zeros_under (x ∷ s) (y ∷ t) z =
     let p = and_parts (eqb x 0) (zero_from 0 s) z in
     let e = eqb-true x 0 p.0 in
     and_from (leb x y) (under s t) (le-leb x y (omega arith)) (zeros_under s t p.1)
-
-leb_zero : (x : ℕ) → leb x 0 ≡ eqb x 0
-leb_zero zero = refl
-leb_zero (suc x) = lt-leb (suc x) 0 (omega arith) ∙ sym (ne_eqb (suc x) 0 (λ e. omega arith))
-
--- what is at or under zeros is zero
-pub under_zeros : (s : List ℕ) (k : ℕ) → under s (replicate k 0) ≡ zero_from 0 s
-under_zeros [] k = refl
-under_zeros (x ∷ s) zero = λ i. leb_zero x i && under_zeros s zero i
-under_zeros (x ∷ s) (suc k) = λ i. leb_zero x i && under_zeros s k i
 
 pub under_prefix : (n : ℕ) (s t : List ℕ) → zero_from n s ≡ true → under (take n s) (take n t) ≡ under s t
 under_prefix zero [] t z = refl

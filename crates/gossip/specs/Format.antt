@@ -9,7 +9,7 @@
 --  24           4n              sender's timestamp
 --  24 + 4n      e × (20 + 4n)   entries: seat (8), word (8), mark (4), timestamp (4n)
 --
--- decode k b   the message of the kind k that bytes spell, or the number of the first rule that they break
+-- decode k b   the message of the kind k that bytes spell, or the first rule that they break
 -- encode k m   the bytes of a message of the kind k
 use Rattle.std.specs.Prelude.{ℕ, ◌+◌, ◌*◌, Bool, cond, ◌&&◌, List, [], ◌∷◌, ◌++◌, map, length, take, drop, Some, None, Ok, Err, Option, Result, ◌==◌, nat_le, slice_index}
 use Rattle.gossip.specs.Lattices.{Kind}
@@ -22,6 +22,8 @@ use Rattle.gossip.specs.declared.entry.Entry.{Entry}
 use Rattle.gossip.specs.declared.entry.State.{State}
 use Rattle.gossip.specs.declared.entry.State.TheVariants.{Value, Tombstone}
 use Rattle.gossip.specs.declared.head.Head.{Head}
+use Rattle.gossip.specs.declared.refusal.Refusal.{Refusal}
+use Rattle.gossip.specs.declared.refusal.Refusal.TheVariants.{Short, Form, Origin, Layout, Clock, Order, Mark}
 
 -- bytes of an entry, and of a message of so many entries
 abbrev pub entry_length : ℕ → ℕ
@@ -51,13 +53,13 @@ layout n count timestamp_offset entries_offset written length =
     && (written == message_length n count
     && length == message_length n count)))
 
-unfoldable pub decode_head : Kind → List ℕ → Result Head ℕ
+unfoldable pub decode_head : Kind → List ℕ → Result Head Refusal
 decode_head k b =
-    unless (nat_le 24 (length b)) 20
-    (unless (slice_index b 0 == 1) 21
-    (unless (slice_index b 1 == k.number && origin (slice_index b 2) (slice_index b 3)) 22
-    (unless (layout (slice_index b 2) (field 8 2 b) (field 10 2 b) (field 12 2 b) (field 14 2 b) (length b)) 23
-    (unless (nat_le (field 16 8 b) latest) 24
+    unless (nat_le 24 (length b)) Short
+    (unless (slice_index b 0 == 1) Form
+    (unless (slice_index b 1 == k.number && origin (slice_index b 2) (slice_index b 3)) Origin
+    (unless (layout (slice_index b 2) (field 8 2 b) (field 10 2 b) (field 12 2 b) (field 14 2 b) (length b)) Layout
+    (unless (nat_le (field 16 8 b) latest) Clock
     (Ok (head_at b))))))
 
 -- the bytes of each entry, and of an entry p its seat
@@ -91,14 +93,14 @@ abbrev pub entries_of : Kind → ℕ → Timestamp → List (List ℕ) → Optio
 entries_of k n top [] = Some []
 entries_of k n top (p ∷ ps) = alongside (state_at k n top p) (seat_at p) (entries_of k n top ps)
 
-abbrev pub with_entries : Head → Option (List Entry) → Result Message ℕ
+abbrev pub with_entries : Head → Option (List Entry) → Result Message Refusal
 with_entries h (Some es) = Ok (record { head = h; entries = es })
-with_entries h None = Err 26
+with_entries h None = Err Mark
 
-unfoldable pub decode_entries : Kind → Head → List (List ℕ) → Result Message ℕ
-decode_entries k h ps = unless (rises (map seat_at ps)) 25 (with_entries h (entries_of k h.n h.timestamp ps))
+unfoldable pub decode_entries : Kind → Head → List (List ℕ) → Result Message Refusal
+decode_entries k h ps = unless (rises (map seat_at ps)) Order (with_entries h (entries_of k h.n h.timestamp ps))
 
-unfoldable pub decode : Kind → List ℕ → Result Message ℕ
+unfoldable pub decode : Kind → List ℕ → Result Message Refusal
 decode k b = and_then (decode_head k b) (λ h. decode_entries k h (entry_bytes h.n b))
 
 -- Writing

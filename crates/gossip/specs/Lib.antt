@@ -10,3 +10,7 @@ pub mod Contents
 pub mod WorkedCases
 pub mod Unions
 pub mod KindLaws
+pub mod UnderLemmas
+pub mod Comparing
+pub mod Blanks
+pub mod Kinds

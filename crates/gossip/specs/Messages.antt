@@ -5,15 +5,15 @@
 -- seats es     the seats of entries, in their order
 -- below x xs   x is below the first of xs, if there is one
 -- rises xs     each number is above the one before it
--- origin n p   n is 1 to 7, and replica p is one of the n
+-- origin n p   n is a group's size, and replica p one of the n
 -- wide..       a timestamp, or a tombstone's, has seven parts of 32 bits: true of all that the code holds
 -- allowed t s  a state that may stand in a message with the timestamp t: a value; or a tombstone with a time, and a timestamp at or under t
 -- sound..      a head, an entry beside a timestamp, or a message keeps every rule of the format but that of its kind
 -- of_kind k m  the message's values are values of the kind k
 use Rattle.std.specs.Prelude.{ℕ, ◌^◌, Bool, true, ◌&&◌, ltb, List, [], ◌∷◌, map, length, ◌==◌, nat_le, nat_lt}
+use Rattle.std.specs.List.{list_all}
 use Rattle.gossip.specs.Lattices.{Kind}
-use Rattle.gossip.specs.Numbers.{every}
-use Rattle.gossip.specs.Timestamps.{under, zero_from}
+use Rattle.gossip.specs.Timestamps.{group_size, under, zero_from}
 use Rattle.gossip.specs.declared.timestamp.Timestamp.{Timestamp}
 use Rattle.gossip.specs.declared.entry.Entry.{Entry}
 use Rattle.gossip.specs.declared.entry.State.{State}
@@ -39,10 +39,10 @@ rises [] = true
 rises (x ∷ xs) = below x xs && rises xs
 
 abbrev pub origin : ℕ → ℕ → Bool
-origin n sender = nat_le 1 n && (nat_le n 7 && nat_lt sender n)
+origin n sender = group_size n && nat_lt sender n
 
 abbrev pub wide_timestamp : Timestamp → Bool
-wide_timestamp t = length t.parts == 7 && every (λ x. ltb x (2 ^ 32)) t.parts
+wide_timestamp t = length t.parts == 7 && list_all (λ x. ltb x (2 ^ 32)) t.parts
 
 abbrev pub wide_state : State → Bool
 wide_state (Value v) = true
@@ -68,11 +68,11 @@ sound m =
     sound_head m.head
     && (nat_le (length m.entries) 64
     && (rises (seats m.entries)
-    && every (sound_entry m.head.timestamp) m.entries))
+    && list_all (sound_entry m.head.timestamp) m.entries))
 
 abbrev pub of_kind_state : Kind → State → Bool
 of_kind_state k (Value v) = k.valid v
 of_kind_state k (Tombstone t s) = true
 
 abbrev pub of_kind : Kind → Message → Bool
-of_kind k m = every (λ e. of_kind_state k e.state) m.entries
+of_kind k m = list_all (λ e. of_kind_state k e.state) m.entries

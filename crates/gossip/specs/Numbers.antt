@@ -4,14 +4,14 @@
 -- bytes w v       the lowest w bytes of a number, the lowest first
 -- field at w b    the number in the w bytes from a place on
 -- pieces s k b    the first k pieces of s bytes each
+-- whole_pieces s b  b cut into pieces of s bytes, as many as are whole
 -- counters k b    the first k numbers of four bytes each
 -- spell ws vs     the numbers vs of widths ws, one after another
 -- total ws        how many bytes these widths take together
 -- joined f xs     what f makes of each of xs, one after another
 -- put_at at xs o  o with xs written over it from a place on
--- every p xs      each of xs passes the test p
 -- Bytes b         each of b is a byte
-use Rattle.std.specs.Prelude.{ℕ, zero, suc, ◌+◌, ◌*◌, ◌/◌, ◌%◌, ◌<◌, Bool, true, ◌&&◌, List, [], ◌∷◌, ◌++◌, map, length, take, drop, slice_index}
+use Rattle.std.specs.Prelude.{ℕ, zero, suc, ◌+◌, ◌*◌, ◌/◌, ◌%◌, ◌<◌, List, [], ◌∷◌, ◌++◌, map, length, take, drop, slice_index}
 
 unfoldable pub number : List ℕ → ℕ
 number [] = 0
@@ -27,6 +27,9 @@ field at w b = number (take w (drop at b))
 unfoldable pub pieces : ℕ → ℕ → List ℕ → List (List ℕ)
 pieces s zero b = []
 pieces s (suc k) b = take s b ∷ pieces s k (drop s b)
+
+abbrev pub whole_pieces : ℕ → List ℕ → List (List ℕ)
+whole_pieces s b = pieces s (length b / s) b
 
 abbrev pub counters : ℕ → List ℕ → List ℕ
 counters k b = map number (pieces 4 k b)
@@ -46,10 +49,6 @@ joined f (x ∷ xs) = f x ++ joined f xs
 
 abbrev pub put_at : ℕ → List ℕ → List ℕ → List ℕ
 put_at at xs o = take at o ++ (xs ++ drop (at + length xs) o)
-
-abbrev pub every : {X : Type 0} → (X → Bool) → List X → Bool
-every p [] = true
-every p (x ∷ xs) = p x && every p xs
 
 abbrev pub Bytes : List ℕ → Type 0
 Bytes b = (i : ℕ) → slice_index b i < 256

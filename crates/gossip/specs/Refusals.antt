@@ -3,8 +3,8 @@
 -- number r       a refusal's number
 -- cause r        its cause in words
 -- shown r        the two as they are printed, a space between them
--- outcome f r    a result as a promise speaks of it: f of what was done, or the refusal's number
--- unless ok e r  r where the test holds, else the refusal numbered e
+-- outcome f r    a result as a promise speaks of it: f of what was done, or the refusal
+-- unless ok e r  r where the test holds, else the refusal e
 -- and_then r f   f of what r gives, or r's refusal
 use Rattle.std.specs.Prelude.{ℕ, Bool, cond, List, ◌++◌, Ok, Err, codes, decimal, Result}
 use Rattle.gossip.specs.declared.refusal.Refusal.{Refusal}
@@ -37,13 +37,13 @@ cause Mark = codes "an entry has another mark or breaks its mark's rule"
 abbrev pub shown : Refusal → List ℕ
 shown r = decimal (number r) ++ (codes " " ++ cause r)
 
-abbrev pub outcome : {T X : Type 0} → (T → X) → Result T Refusal → Result X ℕ
+abbrev pub outcome : {T X E : Type 0} → (T → X) → Result T E → Result X E
 outcome f (Ok x) = Ok (f x)
-outcome f (Err e) = Err (number e)
+outcome f (Err e) = Err e
 
-abbrev pub unless : {X : Type 0} → Bool → ℕ → Result X ℕ → Result X ℕ
+abbrev pub unless : {X E : Type 0} → Bool → E → Result X E → Result X E
 unless ok e r = cond ok r (Err e)
 
-abbrev pub and_then : {X Y : Type 0} → Result X ℕ → (X → Result Y ℕ) → Result Y ℕ
+abbrev pub and_then : {X Y E : Type 0} → Result X E → (X → Result Y E) → Result Y E
 and_then (Ok x) f = f x
 and_then (Err e) f = Err e

@@ -6,8 +6,9 @@
 -- bumped s p         one more in part p
 -- padded s           s with zeros behind it, seven parts in all
 -- zero_from n s      the parts from the n-th on are 0, as in every timestamp of n replicas
--- exactly n k        k numbers are a timestamp of n replicas: k is n, and n is 1 to 7
--- exactly_bytes n k  k bytes are one, four to a number: k is 4n, and n is 1 to 7
+-- group_size n       a group can have n replicas: n is 1 to 7
+-- exactly n k        k numbers are a timestamp of n replicas: k is n, and n a group's size
+-- exactly_bytes n k  k bytes are one, four to a number: k is 4n, and n a group's size
 use Rattle.std.specs.Prelude.{ℕ, zero, suc, ◌+◌, ◌-◌, ◌*◌, max, Bool, true, ◌&&◌, List, [], ◌∷◌, ◌++◌, length, replicate, ◌==◌, nat_le, slice_index, slice_set}
 
 abbrev pub part : List ℕ → ℕ → ℕ
@@ -34,8 +35,11 @@ zero_from n [] = true
 zero_from zero (x ∷ s) = x == 0 && zero_from zero s
 zero_from (suc n) (x ∷ s) = zero_from n s
 
+abbrev pub group_size : ℕ → Bool
+group_size n = nat_le 1 n && nat_le n 7
+
 abbrev pub exactly : ℕ → ℕ → Bool
-exactly n k = nat_le 1 n && (nat_le n 7 && k == n)
+exactly n k = group_size n && k == n
 
 abbrev pub exactly_bytes : ℕ → ℕ → Bool
-exactly_bytes n k = nat_le 1 n && (nat_le n 7 && k == 4 * n)
+exactly_bytes n k = group_size n && k == 4 * n

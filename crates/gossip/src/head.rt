@@ -2,7 +2,7 @@
 use crate::timestamp::Timestamp;
 
 // The latest time and clock reading, 2^40 - 1.
-pub(crate) const LATEST: u64 = 1_099_511_627_775;
+pub const LATEST: u64 = 1_099_511_627_775;
 
 // The sender, as one of n replicas of a group, with its clock and its timestamp.
 #[derive(Clone, Copy, PartialEq, Eq, Debug)]

@@ -1,58 +1,53 @@
 // Reading a gossip message.
-ghost use Rattle.std.specs.Prelude.{◌≡◌, ◌*◌, ◌<◌, ◌≤◌, true, map, length, IfOk, slice_index_or};
-ghost use Rattle.gossip.specs.Contents.{contents};
+ghost use Rattle.std.specs.Prelude.{◌≡◌, ◌*◌, ◌%◌, ◌≤◌, true, map, length, IfOk, OnOk};
 ghost use Rattle.gossip.specs.Format.{decode, decode_head, decode_entries, encode, entry_length, message_length, layout, state_at, seat_at, value_at, tombstone_at};
 ghost use Rattle.gossip.specs.Messages.{sound, sound_head, of_kind, rises};
-ghost use Rattle.gossip.specs.Numbers.{field, pieces};
-ghost use Rattle.gossip.specs.Refusals.{outcome};
+ghost use Rattle.gossip.specs.Numbers.{field, whole_pieces};
 
-use crate::entry::{Entry, State};
+use crate::entries::{ENTRIES, Entries};
+use crate::entry::{Entry, State, TOMBSTONE, VALUE};
 use crate::head::{Head, LATEST};
 use crate::lattice::Lattice;
-use crate::message::{ENTRIES, Gossip, is_origin};
-use crate::numbers::{u16_at, u32_at, u64_at};
+use crate::message::{Gossip, is_origin};
+use crate::numbers::{read_le, u32_at};
 use crate::refusal::Refusal;
 use crate::timestamp::Timestamp;
 
-// The form of every gossip message, and the length of its fixed front.
-const FORM: u8 = 1;
+// The form of every gossip message.
+pub(crate) const FORM: u8 = 1;
 
-const FRONT: usize = 24;
-
-// The marks of an entry.
-const VALUE: u32 = 1;
-
-const TOMBSTONE: u32 = 2;
+// The length of its fixed front, in which its head says how long it is.
+pub const FRONT: usize = 24;
 
 // The fields behind the four head bytes and before the timestamp.
 #[derive(Clone, Copy)]
 struct Fields {
     group: u32,
-    count: u16,
-    timestamp_at: u16,
-    entries_at: u16,
-    len: u16,
+    count: usize,
+    timestamp_at: usize,
+    entries_at: usize,
+    len: usize,
     clock: u64,
 }
 
 impl Gossip {
     // The message of the lattice's kind that the bytes spell, or the first rule that they break.
     pub fn read<L: Lattice>(bytes: &[u8]) -> Result<Gossip, Refusal>
-        ensures answer { outcome contents result ≡ decode L.kind bytes.now }
-        ensures spelling { IfOk result (λ g. bytes.now ≡ encode L.kind (contents g)) }
-        ensures kind { IfOk result (λ g. of_kind L.kind (contents g) ≡ true) }
+        ensures answer { result ≡ decode L.kind bytes.now }
+        ensures spelling { IfOk result (λ m. bytes.now ≡ encode L.kind m) }
+        ensures kind { IfOk result (λ m. of_kind L.kind m ≡ true) }
     {
-        let (head, count) = read_head::<L>(bytes)?;
-        let at = FRONT + 4 * head.n;
-        read_entries::<L>(head, count, &bytes[at..])
+        let head = read_head::<L>(bytes)?;
+        read_entries::<L>(head, &bytes[FRONT + 4 * head.n..])
     }
 }
 
-// The head and the number of entries.
-fn read_head<L: Lattice>(bytes: &[u8]) -> Result<(Head, usize), Refusal>
-    ensures answer { outcome (λ p. p.0) result ≡ decode_head L.kind bytes.now }
-    ensures count { IfOk result (λ p. (p.1 ≡ field 8 2 bytes.now) × (p.1 ≤ 64) × (length bytes.now ≡ message_length p.0.n p.1)) }
-    ensures sound { IfOk result (λ p. sound_head p.0 ≡ true) }
+// The head, where the entries behind it are of its layout.
+fn read_head<L: Lattice>(bytes: &[u8]) -> Result<Head, Refusal>
+    ensures answer { result ≡ decode_head L.kind bytes.now }
+    ensures few { OnOk result (field 8 2 bytes.now ≤ 64) }
+    ensures long { IfOk result (λ h. length bytes.now ≡ message_length h.n (field 8 2 bytes.now)) }
+    ensures sound { IfOk result (λ h. sound_head h ≡ true) }
 {
     if bytes.len() < FRONT {
         return Err(Refusal::Short);
@@ -78,15 +73,13 @@ fn read_head<L: Lattice>(bytes: &[u8]) -> Result<(Head, usize), Refusal>
     if fields.clock > LATEST {
         return Err(Refusal::Clock);
     }
-    let timestamp = Timestamp::from_bytes(&bytes[FRONT..], n);
-    let head = Head {
+    Ok(Head {
         n,
         sender,
         group: fields.group,
         clock: fields.clock,
-        timestamp,
-    };
-    Ok((head, usize::from(fields.count)))
+        timestamp: Timestamp::from_bytes(&bytes[FRONT..], n),
+    })
 }
 
 fn read_fields(rest: &[u8]) -> Fields
@@ -100,11 +93,11 @@ fn read_fields(rest: &[u8]) -> Fields
 {
     Fields {
         group: u32_at(rest, 0),
-        count: u16_at(rest, 4),
-        timestamp_at: u16_at(rest, 6),
-        entries_at: u16_at(rest, 8),
-        len: u16_at(rest, 10),
-        clock: u64_at(rest, 12),
+        count: read_le(&rest[4..6]) as usize,
+        timestamp_at: read_le(&rest[6..8]) as usize,
+        entries_at: read_le(&rest[8..10]) as usize,
+        len: read_le(&rest[10..12]) as usize,
+        clock: read_le(&rest[12..20]),
     }
 }
 
@@ -113,74 +106,51 @@ fn is_laid_out(n: usize, fields: &Fields, len: usize) -> bool
     requires { n ≤ 7 }
     ensures { result ≡ layout n fields.now.count fields.now.timestamp_at fields.now.entries_at fields.now.len len }
 {
-    let count = usize::from(fields.count);
+    if fields.count > ENTRIES {
+        return false;
+    }
     let entries_at = FRONT + 4 * n;
-    let whole = entries_at + count * (20 + 4 * n);
-    count <= ENTRIES
-        && usize::from(fields.timestamp_at) == FRONT
-        && usize::from(fields.entries_at) == entries_at
-        && usize::from(fields.len) == whole
+    let whole = entries_at + fields.count * (20 + 4 * n);
+    fields.timestamp_at == FRONT
+        && fields.entries_at == entries_at
+        && fields.len == whole
         && len == whole
 }
 
 // The message with this head whose entries the bytes spell.
-fn read_entries<L: Lattice>(head: Head, count: usize, bytes: &[u8]) -> Result<Gossip, Refusal>
+fn read_entries<L: Lattice>(head: Head, bytes: &[u8]) -> Result<Gossip, Refusal>
     requires sound { sound_head head ≡ true }
-    requires few { count ≤ 64 }
-    requires whole { length bytes.now ≡ count * entry_length head.n }
-    ensures { outcome contents result ≡ decode_entries L.kind head (pieces (entry_length head.n) count bytes.now) }
+    requires few { length bytes.now ≤ 64 * entry_length head.n }
+    requires whole { length bytes.now % entry_length head.n ≡ 0 }
+    ensures { result ≡ decode_entries L.kind head (whole_pieces (entry_length head.n) bytes.now) }
 {
     let size = 20 + 4 * head.n;
-    if !seats_rise(bytes, size, count) {
+    if !seats_rise(bytes, size) {
         return Err(Refusal::Order);
     }
-    let mut entries = [Entry {
-        seat: 0,
-        state: State::Value(0),
-    }; 64];
-    for i in 0..count {
-        let entry = piece(bytes, size, count, i);
-        let Some(state) = read_state::<L>(entry, head.n, &head.timestamp) else {
+    let mut entries = Entries::new();
+    for piece in bytes.chunks_exact(size) {
+        let Some(state) = read_state::<L>(piece, head.n, &head.timestamp) else {
             return Err(Refusal::Mark);
         };
-        entries[i] = Entry {
-            seat: u64_at(entry, 0),
-            state,
-        };
+        let seat = read_le(&piece[0..8]);
+        entries.push(Entry { seat, state });
     }
-    Ok(Gossip {
-        head,
-        entries,
-        count,
-    })
-}
-
-// Piece i of `count` pieces of one size.
-fn piece(bytes: &[u8], size: usize, count: usize, i: usize) -> &[u8]
-    requires whole { length bytes.now ≡ count * size }
-    requires within { i < count }
-    ensures value { result.now ≡ slice_index_or (pieces size count bytes.now) i result.now }
-    ensures len { length result.now ≡ size }
-{
-    &bytes[i * size..i * size + size]
+    Ok(Gossip { head, entries })
 }
 
 // Whether the seats of entries of one size rise.
-fn seats_rise(bytes: &[u8], size: usize, count: usize) -> bool
-    requires wide { 8 ≤ size }
-    requires whole { length bytes.now ≡ count * size }
-    ensures { result ≡ rises (map seat_at (pieces size count bytes.now)) }
+fn seats_rise(bytes: &[u8], size: usize) -> bool
+    requires { 8 ≤ size }
+    ensures { result ≡ rises (map seat_at (whole_pieces size bytes.now)) }
 {
-    if count == 0 {
-        return true;
-    }
-    let mut before = u64_at(piece(bytes, size, count, 0), 0);
-    for i in 1..count {
-        let seat = u64_at(piece(bytes, size, count, i), 0);
-        if before >= seat {
-            return false;
+    let mut before = None;
+    for piece in bytes.chunks_exact(size) {
+        let seat = read_le(&piece[0..8]);
+        match before {
+            Some(last) if last >= seat => return false,
+            _ => before = Some(seat),
         }
-        before = seat;
     }
     true
 }
@@ -192,9 +162,10 @@ fn read_state<L: Lattice>(entry: &[u8], n: usize, top: &Timestamp) -> Option<Sta
     ensures { result ≡ state_at L.kind n top.now entry.now }
 {
     let timestamp = Timestamp::from_bytes(&entry[20..], n);
+    let word = read_le(&entry[8..16]);
     match u32_at(entry, 16) {
-        VALUE => read_value::<L>(u64_at(entry, 8), &timestamp),
-        TOMBSTONE => read_tombstone(u64_at(entry, 8), timestamp, top),
+        VALUE => read_value::<L>(word, &timestamp),
+        TOMBSTONE => read_tombstone(word, timestamp, top),
         _ => None,
     }
 }
@@ -212,8 +183,7 @@ fn read_value<L: Lattice>(word: u64, timestamp: &Timestamp) -> Option<State>
 fn read_tombstone(word: u64, timestamp: Timestamp, top: &Timestamp) -> Option<State>
     ensures { result ≡ tombstone_at top.now word timestamp }
 {
-    let (under, _) = timestamp.compare(top);
-    if word <= LATEST && under {
+    if word <= LATEST && timestamp.is_under(top) {
         Some(State::Tombstone {
             time: word,
             timestamp,

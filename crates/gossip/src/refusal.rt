@@ -7,26 +7,26 @@ use std::fmt;
 // Each refusal has one number in the whole service.
 #[derive(Clone, Copy, PartialEq, Eq, Debug)]
 pub enum Refusal {
-    // 1: no timestamp has a part for this replica.
-    Replica,
-    // 7: the part is as large as can be.
-    Full,
-    // 8: the timestamp buffer has not exactly n parts.
-    Parts,
-    // 20: the message has under 24 bytes.
-    Short,
-    // 21: its form is not 1.
-    Form,
-    // 22: it is of another kind, its n is outside 1 to 7, or its sender is not below n.
-    Origin,
-    // 23: a count, an offset or a length is not the format's.
-    Layout,
-    // 24: its clock is too large.
-    Clock,
-    // 25: its seats do not rise.
-    Order,
-    // 26: an entry has another mark or breaks its mark's rule.
-    Mark,
+    // No timestamp has a part for this replica.
+    Replica = 1,
+    // The part is as large as can be.
+    Full = 7,
+    // The timestamp buffer has not exactly n parts.
+    Parts = 8,
+    // The message has under 24 bytes.
+    Short = 20,
+    // Its form is not 1.
+    Form = 21,
+    // It is of another kind, its n is outside 1 to 7, or its sender is not below n.
+    Origin = 22,
+    // A count, an offset or a length is not the format's.
+    Layout = 23,
+    // Its clock is too large.
+    Clock = 24,
+    // Its seats do not rise.
+    Order = 25,
+    // An entry has another mark or breaks its mark's rule.
+    Mark = 26,
 }
 
 impl Refusal {
@@ -34,18 +34,7 @@ impl Refusal {
     pub fn number(self) -> u8
         ensures answer { result ≡ number self }
     {
-        match self {
-            Refusal::Replica => 1,
-            Refusal::Full => 7,
-            Refusal::Parts => 8,
-            Refusal::Short => 20,
-            Refusal::Form => 21,
-            Refusal::Origin => 22,
-            Refusal::Layout => 23,
-            Refusal::Clock => 24,
-            Refusal::Order => 25,
-            Refusal::Mark => 26,
-        }
+        self as u8
     }
 
     // Its cause in words.
@@ -72,8 +61,9 @@ impl fmt::Display for Refusal {
     ghost output = { λ r. Some (shown r) };
 
     fn fmt<W: fmt::Write>(&self, f: &mut fmt::Formatter<W>) -> fmt::Result {
-        let number = self.number();
-        let cause = self.cause();
-        write!(f, "{number} {cause}")
+        write!(f, "{} {}", self.number(), self.cause())
     }
 }
+
+// Callers can hand it on as any error.
+impl std::error::Error for Refusal {}

@@ -1,13 +1,16 @@
 // Multipart timestamps: one counter for each replica of a group.
 ghost use Rattle.std.specs.Prelude.{◌≡◌, ◌*◌, ◌≤◌, true, [], length, take, is_ok, if◌then◌else◌, Ok, nat_lt};
+ghost use Rattle.gossip.specs.Comparing.{compared, compared_lawful};
 ghost use Rattle.gossip.specs.Format.{encode_timestamp, timestamp_at};
 ghost use Rattle.gossip.specs.Messages.{wide_timestamp};
-ghost use Rattle.gossip.specs.Refusals.{outcome, unless};
-ghost use Rattle.gossip.specs.Timestamps.{part, under, merged, bumped, padded, exactly, exactly_bytes, zero_from};
+ghost use Rattle.gossip.specs.Refusals.{unless};
+ghost use Rattle.gossip.specs.declared.refusal.Refusal.TheVariants.{Replica, Full, Parts};
+ghost use Rattle.gossip.specs.Timestamps.{part, under, merged, bumped, padded, exactly, exactly_bytes, zero_from, group_size};
 
 use crate::numbers::u32_at;
 use crate::refusal::Refusal;
-use crate::writer::put_timestamp;
+use std::array;
+use std::cmp::Ordering;
 
 // The most replicas that a group has, and so the parts of every timestamp.
 pub const MOST: usize = 7;
@@ -26,33 +29,16 @@ impl Timestamp {
         Timestamp { parts: [0; 7] }
     }
 
-    // Is the first at or under the second, and the second at or under the first?
-    pub fn compare(&self, other: &Timestamp) -> (bool, bool)
-        ensures answer { result ≡ (under self.now.parts other.now.parts, under other.now.parts self.now.parts) }
-        ensures alike { length self.now.parts ≡ length other.now.parts }
-    {
-        let mut under = true;
-        let mut over = true;
-        for i in 0..MOST {
-            under = under & (self.parts[i] <= other.parts[i]);
-            over = over & (other.parts[i] <= self.parts[i]);
-        }
-        (under, over)
-    }
-
     // Keeps the larger of each part.
     pub fn merge(&mut self, other: &Timestamp)
         ensures after { self.new.parts ≡ merged self.old.parts other.now.parts }
     {
-        for i in 0..MOST {
-            let larger = self.parts[i].max(other.parts[i]);
-            self.parts[i] = larger;
-        }
+        self.parts = array::from_fn(|i| self.parts[i].max(other.parts[i]));
     }
 
     // One more in a replica's part; a refusal changes nothing.
     pub fn bump(&mut self, replica: usize) -> Result<(), Refusal>
-        ensures answer { outcome (λ u. u) result ≡ unless (nat_lt replica 7) 1 (unless (nat_lt (part self.old.parts replica) 4294967295) 7 (Ok tt)) }
+        ensures answer { result ≡ unless (nat_lt replica 7) Replica (unless (nat_lt (part self.old.parts replica) 4294967295) Full (Ok tt)) }
         ensures after { self.new.parts ≡ (if is_ok result then bumped self.old.parts replica else self.old.parts) }
     {
         if replica >= MOST {
@@ -67,9 +53,9 @@ impl Timestamp {
 
     // The timestamp of n replicas in a buffer of exactly n parts.
     pub fn read(n: usize, buffer: &[u32]) -> Result<Timestamp, Refusal>
-        ensures answer { outcome (λ t. t.parts) result ≡ unless (exactly n (length buffer.now)) 8 (Ok (padded buffer.now)) }
+        ensures answer { result ≡ unless (exactly n (length buffer.now)) Parts (Ok record { parts = padded buffer.now }) }
     {
-        if !exact(n, buffer.len()) {
+        if !is_group_size(n) || buffer.len() != n {
             return Err(Refusal::Parts);
         }
         let mut parts = [0; 7];
@@ -79,10 +65,10 @@ impl Timestamp {
 
     // Writes the first n parts over a buffer of exactly n; a refusal writes nothing.
     pub fn write(&self, n: usize, buffer: &mut [u32]) -> Result<(), Refusal>
-        ensures answer { outcome (λ u. u) result ≡ unless (exactly n (length buffer.old)) 8 (Ok tt) }
+        ensures answer { result ≡ unless (exactly n (length buffer.old)) Parts (Ok tt) }
         ensures buffer { buffer.new ≡ (if is_ok result then take n self.now.parts else buffer.old) }
     {
-        if !exact(n, buffer.len()) {
+        if !is_group_size(n) || buffer.len() != n {
             return Err(Refusal::Parts);
         }
         buffer.copy_from_slice(&self.parts[0..n]);
@@ -91,9 +77,9 @@ impl Timestamp {
 
     // The timestamp of n replicas that exactly 4n bytes spell.
     pub fn read_bytes(n: usize, bytes: &[u8]) -> Result<Timestamp, Refusal>
-        ensures answer { outcome (λ t. t) result ≡ unless (exactly_bytes n (length bytes.now)) 8 (Ok (timestamp_at n bytes.now)) }
+        ensures answer { result ≡ unless (exactly_bytes n (length bytes.now)) Parts (Ok (timestamp_at n bytes.now)) }
     {
-        if !exact_bytes(n, bytes.len()) {
+        if !is_group_size(n) || bytes.len() != 4 * n {
             return Err(Refusal::Parts);
         }
         Ok(Timestamp::from_bytes(bytes, n))
@@ -101,13 +87,15 @@ impl Timestamp {
 
     // Writes the first n parts over exactly 4n bytes; a refusal writes nothing.
     pub fn write_bytes(&self, n: usize, out: &mut [u8]) -> Result<(), Refusal>
-        ensures answer { outcome (λ u. u) result ≡ unless (exactly_bytes n (length out.old)) 8 (Ok tt) }
+        ensures answer { result ≡ unless (exactly_bytes n (length out.old)) Parts (Ok tt) }
         ensures buffer { out.new ≡ (if is_ok result then encode_timestamp n self.now else out.old) }
     {
-        if !exact_bytes(n, out.len()) {
+        if !is_group_size(n) || out.len() != 4 * n {
             return Err(Refusal::Parts);
         }
-        put_timestamp(out, 0, n, self);
+        for (i, part) in self.prefix(n).iter().enumerate() {
+            out[4 * i..4 * i + 4].copy_from_slice(&part.to_le_bytes());
+        }
         Ok(())
     }
 
@@ -122,16 +110,30 @@ impl Timestamp {
         }
     }
 
-    // Whether it is a timestamp of n replicas: the parts from the n-th on are 0.
-    pub(crate) fn is_of(&self, n: usize) -> bool
-        ensures answer { result ≡ zero_from n self.now.parts }
-        ensures wide { wide_timestamp self.now ≡ true }
+    // Whether it is at or under another: each of its parts is at most the other's.
+    pub fn is_under(&self, other: &Timestamp) -> bool
+        ensures answer { result ≡ under self.now.parts other.now.parts }
+        ensures alike { length self.now.parts ≡ length other.now.parts }
     {
-        let mut zero = true;
-        for i in 0..MOST {
-            zero = zero & ((i < n) | (self.parts[i] == 0));
+        for (mine, theirs) in self.parts.iter().zip(&other.parts) {
+            if mine > theirs {
+                return false;
+            }
         }
-        zero
+        true
+    }
+
+    // Whether it is a timestamp of n replicas: the parts from the n-th on are 0.
+    pub fn is_of(&self, n: usize) -> bool
+        ensures answer { result ≡ zero_from n self.now.parts }
+        ensures wide { result ≡ true → wide_timestamp self.now ≡ true }
+    {
+        for (i, part) in self.parts.iter().enumerate() {
+            if i >= n && *part != 0 {
+                return false;
+            }
+        }
+        true
     }
 
     // The timestamp that n numbers of four bytes spell.
@@ -139,24 +141,30 @@ impl Timestamp {
         requires { (n ≤ 7) × (4 * n ≤ length src.now) }
         ensures { result ≡ timestamp_at n src.now }
     {
-        let mut parts = [0; 7];
-        for i in 0..n {
-            parts[i] = u32_at(src, 4 * i);
-        }
+        let parts = array::from_fn(|i| if i < n { u32_at(src, 4 * i) } else { 0 });
         Timestamp { parts }
     }
 }
 
-// Whether so many numbers are a timestamp of n replicas.
-fn exact(n: usize, len: usize) -> bool
-    ensures { result ≡ exactly n len }
-{
-    1 <= n && n <= MOST && len == n
+// A timestamp is at or under another where each of its parts is. Where neither is at or under the other, they have no order.
+impl PartialOrd for Timestamp {
+    ghost partial_cmp = { compared };
+
+    ghost laws = { compared_lawful };
+
+    fn partial_cmp(&self, other: &Timestamp) -> Option<Ordering> {
+        match (self.is_under(other), other.is_under(self)) {
+            (true, true) => Some(Ordering::Equal),
+            (true, false) => Some(Ordering::Less),
+            (false, true) => Some(Ordering::Greater),
+            (false, false) => None,
+        }
+    }
 }
 
-// Whether so many bytes are a timestamp of n replicas.
-fn exact_bytes(n: usize, len: usize) -> bool
-    ensures { result ≡ exactly_bytes n len }
+// Whether a group can have so many replicas.
+pub fn is_group_size(n: usize) -> bool
+    ensures answer { result ≡ group_size n }
 {
-    1 <= n && n <= MOST && len == 4 * n
+    1 <= n && n <= MOST
 }

@@ -1,28 +1,34 @@
 // Writing a gossip message.
-ghost use Rattle.std.specs.Prelude.{◌≡◌, ◌+◌, ◌*◌, ◌≤◌, true, length, take, IfOk, if◌then◌else◌, Ok};
-ghost use Rattle.gossip.specs.Contents.{contents};
-ghost use Rattle.gossip.specs.Format.{decode, encode, encode_entry, encode_timestamp, entry_length, word_of, mark_of, timestamp_of};
+ghost use Rattle.std.specs.Prelude.{◌≡◌, ◌+◌, ◌≤◌, true, [], ◌++◌, length, take, IfOk, if◌then◌else◌, Ok};
+ghost use Rattle.std.specs.List.{list_all};
+ghost use Rattle.arrayvec.specs.ArrayVec.{array_vec_len};
+ghost use Rattle.gossip.specs.Format.{decode, encode, encode_entry, encode_timestamp, head_numbers, head_widths};
 ghost use Rattle.gossip.specs.Messages.{of_kind, of_kind_state};
-ghost use Rattle.gossip.specs.Numbers.{every, joined, put_at, spell, total};
-ghost use Rattle.gossip.specs.Refusals.{outcome, unless};
+ghost use Rattle.gossip.specs.Numbers.{joined, put_at, spell};
+ghost use Rattle.gossip.specs.Refusals.{unless};
+ghost use Rattle.gossip.specs.declared.refusal.Refusal.TheVariants.{Mark};
 
 use crate::entry::{Entry, State};
 use crate::lattice::Lattice;
 use crate::message::Gossip;
-use crate::numbers::put;
+use crate::reader::{FORM, FRONT};
 use crate::refusal::Refusal;
 use crate::timestamp::Timestamp;
+use arrayvec::ArrayVec;
 
 // Room for the longest checkpoint, and so for the longest message, which has 3,124 bytes.
 pub const ROOM: usize = 3_320;
+
+// A message as it is spelled, as far as it is.
+type Spelling = ArrayVec<u8, ROOM>;
 
 impl Gossip {
     // Writes the message, as one of the lattice's kind, to the front of the bytes and leaves the rest. The answer is its length.
     // A value that is not of the kind is refused, and nothing is written then.
     pub fn write<L: Lattice>(&self, out: &mut [u8; ROOM]) -> Result<usize, Refusal>
-        ensures answer { outcome (λ len. len) result ≡ unless (of_kind L.kind (contents self.now)) 26 (Ok (length (encode L.kind (contents self.now)))) }
-        ensures buffer { out.new ≡ (if of_kind L.kind (contents self.now) then put_at 0 (encode L.kind (contents self.now)) out.old else out.old) }
-        ensures back { IfOk result (λ len. decode L.kind (take len out.new) ≡ Ok (contents self.now)) }
+        ensures answer { result ≡ unless (of_kind L.kind self.now) Mark (Ok (length (encode L.kind self.now))) }
+        ensures buffer { out.new ≡ (if of_kind L.kind self.now then put_at 0 (encode L.kind self.now) out.old else out.old) }
+        ensures back { IfOk result (λ len. decode L.kind (take len out.new) ≡ Ok self.now) }
     {
         if !are_of_kind::<L>(self.entries()) {
             return Err(Refusal::Mark);
@@ -33,48 +39,44 @@ impl Gossip {
     // Writes the message, as one of the lattice's kind, to the front of the bytes and leaves the rest. The answer is its length.
     // The values are not looked at, so it reads back exactly where they are of the kind: for callers that know that they are.
     pub fn spell<L: Lattice>(&self, out: &mut [u8; ROOM]) -> usize
-        ensures answer { result ≡ length (encode L.kind (contents self.now)) }
-        ensures buffer { out.new ≡ put_at 0 (encode L.kind (contents self.now)) out.old }
-        ensures back { of_kind L.kind (contents self.now) ≡ true → decode L.kind (take result out.new) ≡ Ok (contents self.now) }
+        ensures answer { result ≡ length (encode L.kind self.now) }
+        ensures buffer { out.new ≡ put_at 0 (encode L.kind self.now) out.old }
+        ensures back { of_kind L.kind self.now ≡ true → decode L.kind (take result out.new) ≡ Ok self.now }
         ensures fits { result ≤ 3124 }
     {
-        let head = self.head;
-        let n = head.n;
-        let entries_at = 24 + 4 * n;
-        let len = entries_at + self.count * (20 + 4 * n);
-        put_numbers(
-            out,
-            0,
-            &[1, 1, 1, 1, 4, 2, 2, 2, 2, 8],
-            &[
-                1,
-                L::number() as u64,
-                n as u64,
-                head.sender as u64,
-                head.group as u64,
-                self.count as u64,
-                24,
-                entries_at as u64,
-                len as u64,
-                head.clock,
-            ],
-        );
-        put_timestamp(out, 24, n, &head.timestamp);
-        put_entries(out, entries_at, n, self.entries());
+        let mut spelling = Spelling::new();
+        self.put_front::<L>(&mut spelling);
+        put_timestamp(&mut spelling, &self.head.timestamp, self.head.n);
+        put_entries(&mut spelling, self.entries(), self.head.n);
+        let len = spelling.len();
+        out[0..len].copy_from_slice(spelling.as_slice());
         len
+    }
+
+    // Puts the fixed front of the message's spelling: what stands before its timestamp.
+    fn put_front<L: Lattice>(&self, out: &mut Spelling)
+        requires { out.old.items ≡ [] }
+        ensures { out.new.items ≡ spell head_widths (head_numbers L.kind self.now.head (length self.now.entries)) }
+    {
+        let n = self.head.n;
+        let count = self.entries().len();
+        let entries_at = FRONT + 4 * n;
+        let len = entries_at + count * (20 + 4 * n);
+        put(out, &[FORM, L::number(), n as u8, self.head.sender as u8]);
+        put(out, &self.head.group.to_le_bytes());
+        put(out, &(count as u16).to_le_bytes());
+        put(out, &(FRONT as u16).to_le_bytes());
+        put(out, &(entries_at as u16).to_le_bytes());
+        put(out, &(len as u16).to_le_bytes());
+        put(out, &self.head.clock.to_le_bytes());
     }
 }
 
 // Whether the values among the entries are of the lattice's kind.
 fn are_of_kind<L: Lattice>(entries: &[Entry]) -> bool
-    ensures { result ≡ every (λ e. of_kind_state L.kind e.state) entries.now }
+    ensures { result ≡ list_all (λ e. of_kind_state L.kind e.state) entries.now }
 {
-    for entry in entries {
-        if !is_of_kind::<L>(&entry.state) {
-            return false;
-        }
-    }
-    true
+    entries.iter().all(|entry| is_of_kind::<L>(&entry.state))
 }
 
 fn is_of_kind<L: Lattice>(state: &State) -> bool
@@ -86,64 +88,42 @@ fn is_of_kind<L: Lattice>(state: &State) -> bool
     }
 }
 
-// Writes numbers of these widths, one after another, from a place on.
-fn put_numbers(out: &mut [u8], at: usize, widths: &[usize], values: &[u64])
-    requires same { length widths.now ≡ length values.now }
-    requires within { at + total widths.now ≤ length out.old }
-    ensures { out.new ≡ put_at at (spell widths.now values.now) out.old }
+// Puts bytes behind those that are there.
+fn put(out: &mut Spelling, bytes: &[u8])
+    requires { array_vec_len out.old + length bytes.now ≤ 3320 }
+    ensures { out.new.items ≡ out.old.items ++ bytes.now }
 {
-    let mut place = at;
-    for i in 0..widths.len() {
-        put(out, place, widths[i], values[i]);
-        place += widths[i];
+    out.try_extend_from_slice(bytes).unwrap();
+}
+
+// Puts the first n parts of a timestamp, four bytes to a part.
+fn put_timestamp(out: &mut Spelling, timestamp: &Timestamp, n: usize)
+    requires { array_vec_len out.old + length (encode_timestamp n timestamp.now) ≤ 3320 }
+    ensures { out.new.items ≡ out.old.items ++ encode_timestamp n timestamp.now }
+{
+    for part in timestamp.prefix(n) {
+        put(out, &part.to_le_bytes());
     }
 }
 
-// Writes a timestamp's first n parts from a place on. That it has so many is known here by its type, and passed on as the length of what is written.
-pub(crate) fn put_timestamp(out: &mut [u8], at: usize, n: usize, timestamp: &Timestamp)
-    requires few { n ≤ 7 }
-    requires within { at + 4 * n ≤ length out.old }
-    ensures written { out.new ≡ put_at at (encode_timestamp n timestamp.now) out.old }
-    ensures long { length (encode_timestamp n timestamp.now) ≡ 4 * n }
+// Puts an entry of a message of n replicas.
+#[tactic(auto, using(crate::proofs::Written::length_entry))]
+fn put_entry(out: &mut Spelling, entry: &Entry, n: usize)
+    requires { array_vec_len out.old + length (encode_entry n entry.now) ≤ 3320 }
+    ensures { out.new.items ≡ out.old.items ++ encode_entry n entry.now }
 {
-    for i in 0..n {
-        put(out, at + 4 * i, 4, u64::from(timestamp.parts[i]));
-    }
+    put(out, &entry.seat.to_le_bytes());
+    put(out, &entry.state.word().to_le_bytes());
+    put(out, &entry.state.mark().to_le_bytes());
+    put_timestamp(out, &entry.state.timestamp(), n);
 }
 
-// A state as it is written: its word, its mark and its timestamp.
-fn spelled(state: &State) -> (u64, u64, Timestamp)
-    ensures word { result.0 ≡ word_of state.now }
-    ensures mark { result.1 ≡ mark_of state.now }
-    ensures timestamp { result.2 ≡ timestamp_of state.now }
+// Puts entries of a message of n replicas, one behind another.
+fn put_entries(out: &mut Spelling, entries: &[Entry], n: usize)
+    requires { array_vec_len out.old + length (joined (encode_entry n) entries.now) ≤ 3320 }
+    ensures { out.new.items ≡ out.old.items ++ joined (encode_entry n) entries.now }
 {
-    match state {
-        State::Value(value) => (*value, 1, Timestamp::zero()),
-        State::Tombstone { time, timestamp } => (*time, 2, *timestamp),
-    }
-}
-
-// Writes an entry from a place on.
-fn put_entry(out: &mut [u8], at: usize, n: usize, entry: &Entry)
-    requires few { n ≤ 7 }
-    requires within { at + entry_length n ≤ length out.old }
-    ensures written { out.new ≡ put_at at (encode_entry n entry.now) out.old }
-    ensures long { length (encode_entry n entry.now) ≡ entry_length n }
-{
-    let (word, mark, timestamp) = spelled(&entry.state);
-    put_numbers(out, at, &[8, 8, 4], &[entry.seat, word, mark]);
-    put_timestamp(out, at + 20, n, &timestamp);
-}
-
-// Writes entries one after another from a place on.
-fn put_entries(out: &mut [u8], at: usize, n: usize, entries: &[Entry])
-    requires few { n ≤ 7 }
-    requires within { at + length entries.now * entry_length n ≤ length out.old }
-    ensures written { out.new ≡ put_at at (joined (encode_entry n) entries.now) out.old }
-    ensures long { length (joined (encode_entry n) entries.now) ≡ length entries.now * entry_length n }
-{
-    let size = 20 + 4 * n;
-    for i in 0..entries.len() {
-        put_entry(out, at + i * size, n, &entries[i]);
+    for entry in entries {
+        put_entry(out, entry, n);
     }
 }

@@ -1,20 +1,21 @@
 // Making a message, and looking into it.
 ghost use Rattle.std.specs.Prelude.{◌≡◌, true, ◌&&◌, [], ◌∷◌, ◌++◌, length, nat_le};
-ghost use Rattle.gossip.specs.Contents.{contents, started, pushed, after};
+ghost use Rattle.gossip.specs.Contents.{started, pushed, after};
 ghost use Rattle.gossip.specs.Messages.{sound, origin, allowed, latest, rises, seats, wide_timestamp, wide_state};
 ghost use Rattle.gossip.specs.Refusals.{outcome};
 ghost use Rattle.gossip.specs.Timestamps.{under};
 
-use super::{ENTRIES, Gossip};
+use super::Gossip;
+use crate::entries::{ENTRIES, Entries};
 use crate::entry::{Entry, State};
 use crate::head::{Head, LATEST};
 use crate::refusal::Refusal;
-use crate::timestamp::{MOST, Timestamp};
+use crate::timestamp::{Timestamp, is_group_size};
 
 impl Gossip {
     // A message without entries. What cannot be written is refused with the number that a reader would give it.
     pub fn new(head: Head) -> Result<Gossip, Refusal>
-        ensures answer { outcome contents result ≡ started head }
+        ensures answer { result ≡ started head }
     {
         if !is_origin(head.n, head.sender) {
             return Err(Refusal::Origin);
@@ -25,24 +26,18 @@ impl Gossip {
         if head.clock > LATEST {
             return Err(Refusal::Clock);
         }
-        let entries = [Entry {
-            seat: 0,
-            state: State::Value(0),
-        }; 64];
         Ok(Gossip {
             head,
-            entries,
-            count: 0,
+            entries: Entries::new(),
         })
     }
 
     // One more entry, behind the others; a refusal changes nothing.
     pub fn push(&mut self, entry: Entry) -> Result<(), Refusal>
-        ensures answer { outcome (λ _. contents self.new) result ≡ pushed (contents self.old) entry }
-        ensures after { contents self.new ≡ after (pushed (contents self.old) entry) (contents self.old) }
+        ensures answer { outcome (λ _. self.new) result ≡ pushed self.old entry }
+        ensures after { self.new ≡ after (pushed self.old entry) self.old }
     {
-        let count = self.count;
-        if count >= ENTRIES {
+        if self.entries().len() >= ENTRIES {
             return Err(Refusal::Layout);
         }
         if !self.rises_to(entry.seat) {
@@ -51,32 +46,34 @@ impl Gossip {
         if !is_allowed(&entry.state, &self.head.timestamp) {
             return Err(Refusal::Mark);
         }
-        self.entries[count] = entry;
-        self.count = count + 1;
+        self.entries.push(entry);
         Ok(())
     }
 
     // The message's head.
     pub fn head(&self) -> Head
-        ensures answer { result ≡ (contents self.now).head }
-        ensures sound { sound (contents self.now) ≡ true }
+        ensures answer { result ≡ self.now.head }
+        ensures sound { sound self.now ≡ true }
     {
         self.head
     }
 
     // The message's entries, in the rising order of their seats.
     pub fn entries(&self) -> &[Entry]
-        ensures answer { result.now ≡ (contents self.now).entries }
-        ensures sound { sound (contents self.now) ≡ true }
+        ensures answer { result.now ≡ self.now.entries }
+        ensures sound { sound self.now ≡ true }
     {
-        &self.entries[0..self.count]
+        self.entries.as_slice()
     }
 
     // Whether a seat is above those of the entries, of which the last has the highest.
     fn rises_to(&self, seat: u64) -> bool
-        ensures answer { result ≡ rises (seats (contents self.now).entries ++ seat ∷ []) }
+        ensures answer { result ≡ rises (seats self.now.entries ++ seat ∷ []) }
     {
-        self.count == 0 || self.entries[self.count - 1].seat < seat
+        match self.entries().last() {
+            Some(last) => last.seat < seat,
+            None => true,
+        }
     }
 }
 
@@ -84,7 +81,7 @@ impl Gossip {
 pub(crate) fn is_origin(n: usize, sender: usize) -> bool
     ensures { result ≡ origin n sender }
 {
-    1 <= n && n <= MOST && sender < n
+    is_group_size(n) && sender < n
 }
 
 // Whether a state may stand in a message with this timestamp. One that may is as wide as the timestamp, since it is at or under it.
@@ -103,6 +100,5 @@ fn is_covered(time: u64, timestamp: &Timestamp, top: &Timestamp) -> bool
     ensures answer { result ≡ (nat_le time latest && under timestamp.now.parts top.now.parts) }
     ensures alike { length timestamp.now.parts ≡ length top.now.parts }
 {
-    let (under, _) = timestamp.compare(top);
-    time <= LATEST && under
+    time <= LATEST && timestamp.is_under(top)
 }

@@ -1,37 +1,39 @@
-use Rattle.std.proofs.Common.{◌≡◌, ◌+◌, ◌-◌, map, get_or, sym, refl, ap, ◌∙◌, arith}
+use Rattle.std.proofs.Common.{Some, map, sym, ap, ◌∙◌, arith}
+use Rattle.std.specs.Slice.Iter.{chunks_exact_rest}
 use Rattle.gossip.specs.Format.{seat_at}
-use Rattle.gossip.specs.Messages.{rises}
-use Rattle.gossip.specs.Numbers.{pieces}
-use Rattle.gossip.proofs.Loops.{rises_stop, rises_more, rises_all}
-use Rattle.gossip.proofs.NumberLaws.{length_read, read_at}
+use Rattle.gossip.specs.Numbers.{whole_pieces}
+use Rattle.gossip.proofs.Loops.{rises_behind, rises_behind_stop, rises_behind_more, rises_behind_none}
+use Rattle.gossip.proofs.NumberLaws.{whole_pieces-next, whole_pieces_none}
 use Rattle.gossip.proofs.reader.seats_rise.Goals as goal
 
-pub returns-then-count-eq0 : goal.returns-then-count-eq0
-unfolding pieces
-returns-then-count-eq0 c = sym (ap (λ k. rises (map seat_at (pieces c.args.size k c.args.bytes.now))) c.if-count-eq0.true)
+pub returns-in-Some-before : goal.returns-in-Some-before
+returns-in-Some-before c =
+    let turn = c.in-Some.ensures.steps.1 in
+    let pieces = whole_pieces-next c.args.size _ _ _ (omega arith) turn.0 (turn.1 ∙ c.loop-piece.invariant.size) in
+    let rest = rw (c.in-Some-before.is, pieces) at c.loop-piece.invariant.rest in
+    rises_behind_stop c.in-Some-before.last _ _ _ (omega (arith, c.read_le-seat.ensures)) rest
 
-pub loop-i-init : goal.loop-i-init
-loop-i-init c = (refl, c.u64_at-before.ensures ∙ sym (read_at seat_at c.args.size c.args.count c.args.bytes.now 0 c.piece.result.now (omega arith) c.piece.ensures.value))
+pub loop-piece-preserved-in_default : goal.loop-piece-preserved-in_default
+loop-piece-preserved-in_default c =
+    let turn = c.in-Some.ensures.steps.1 in
+    let pieces = whole_pieces-next c.args.size _ _ _ (omega arith) turn.0 (turn.1 ∙ c.loop-piece.invariant.size) in
+    let rest = rw (c.in-Some-before.is, pieces) at c.loop-piece.invariant.rest in
+    record {
+      size = c.in-Some.ensures.steps.0 ∙ c.loop-piece.invariant.size;
+      rest = ap (λ seat. rises_behind (Some seat) (map seat_at (whole_pieces c.args.size (chunks_exact_rest c.next.new.self)))) c.read_le-seat.ensures ∙ rises_behind_more c.in-Some-before.last _ _ _ (omega (arith, c.read_le-seat.ensures)) rest;
+    }
 
-pub returns-then-before-seat : goal.returns-then-before-seat
-returns-then-before-seat c =
-    let l = length_read seat_at c.args.size c.args.count c.args.bytes.now in
-    let e = read_at seat_at c.args.size c.args.count c.args.bytes.now c.loop-i.i c.piece-in-loop-i.result.now c.loop-i-test.true c.piece-in-loop-i.ensures.value in
-    rises_stop (map seat_at (pieces c.args.size c.args.count c.args.bytes.now)) c.loop-i.i _ (omega arith) (omega arith)
-    (omega (arith, c.u64_at-seat.ensures, c.loop-i.invariant.1)) c.loop-i.invariant.0
-
-pub loop-i-preserved : goal.loop-i-preserved
-loop-i-preserved c =
-    let i = c.loop-i.i in
-    let xs = map seat_at (pieces c.args.size c.args.count c.args.bytes.now) in
-    let l = length_read seat_at c.args.size c.args.count c.args.bytes.now in
-    let e = read_at seat_at c.args.size c.args.count c.args.bytes.now c.loop-i.i c.piece-in-loop-i.result.now c.loop-i-test.true c.piece-in-loop-i.ensures.value in
-    let k : c.loop-i.i + 1 - 1 ≡ c.loop-i.i = omega arith in (
-      rises_more xs i _ (omega arith) (omega arith) (omega (arith, c.u64_at-seat.ensures, c.loop-i.invariant.1)) c.loop-i.invariant.0,
-      c.u64_at-seat.ensures ∙ sym e ∙ ap (λ j. get_or xs j 0) (sym k),
-    )
+pub loop-piece-preserved : goal.loop-piece-preserved
+loop-piece-preserved c =
+    let turn = c.in-Some.ensures.steps.1 in
+    let pieces = whole_pieces-next c.args.size _ _ _ (omega arith) turn.0 (turn.1 ∙ c.loop-piece.invariant.size) in
+    let rest = rw (c.in_default.is, pieces) at c.loop-piece.invariant.rest in
+    record {
+      size = c.in-Some.ensures.steps.0 ∙ c.loop-piece.invariant.size;
+      rest = ap (λ seat. rises_behind (Some seat) (map seat_at (whole_pieces c.args.size (chunks_exact_rest c.next.new.self)))) c.read_le-seat.ensures ∙ rest;
+    }
 
 pub returns : goal.returns
 returns c =
-    let l = length_read seat_at c.args.size c.args.count c.args.bytes.now in
-    rises_all _ c.loop-i.i _ (omega arith) c.loop-i.invariant.0
+    let none = whole_pieces_none c.args.size (chunks_exact_rest c.loop-piece.piece-iterator) (omega (arith, c.in-None.ensures.steps.1.0, c.loop-piece.invariant.size)) in
+    sym (rises_behind_none c.loop-piece.before) ∙ rw none at c.loop-piece.invariant.rest

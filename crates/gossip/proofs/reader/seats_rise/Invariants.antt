@@ -1,10 +1,13 @@
-use Rattle.std.proofs.Common.{◌≡◌, ◌-◌, map, get_or, drop}
+use Rattle.std.proofs.Common.{◌≡◌, map}
+use Rattle.std.specs.Slice.Iter.{chunks_exact_rest, chunks_exact_size}
 use Rattle.gossip.specs.Format.{seat_at}
 use Rattle.gossip.specs.Messages.{rises}
-use Rattle.gossip.specs.Numbers.{pieces}
+use Rattle.gossip.specs.Numbers.{whole_pieces}
+use Rattle.gossip.proofs.Loops.{rises_behind}
 use Rattle.gossip.proofs.reader.seats_rise.Given as goal
 
-abbrev pub invariant-loop-i : goal.invariant-loop-i
-invariant-loop-i l =
-    (rises (drop (l.i - 1) (map seat_at (pieces l.size l.count l.bytes))) ≡ rises (map seat_at (pieces l.size l.count l.bytes)))
-    × (l.before ≡ get_or (map seat_at (pieces l.size l.count l.bytes)) (l.i - 1) 0)
+abbrev pub invariant-loop-piece : goal.invariant-loop-piece
+invariant-loop-piece l = record {
+  size : chunks_exact_size l.piece-iterator ≡ l.size;
+  rest : rises_behind l.before (map seat_at (whole_pieces l.size (chunks_exact_rest l.piece-iterator))) ≡ rises (map seat_at (whole_pieces l.size l.bytes));
+}

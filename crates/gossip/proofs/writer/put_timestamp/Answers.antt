@@ -1,18 +1,28 @@
-use Rattle.std.proofs.Common.{◌≡◌, ◌*◌, arith}
-use Rattle.gossip.specs.Numbers.{bytes}
-use Rattle.gossip.proofs.NumberLaws.{length-bytes}
-use Rattle.gossip.proofs.Written.{written_start, written_next}
+use Rattle.std.proofs.Common.{◌++◌, length, take, ap, ◌∙◌, arith, length-append, length-take-le}
+use Rattle.gossip.specs.Numbers.{bytes, joined}
+use Rattle.gossip.proofs.LittleEndian.{le_bytes_four}
+use Rattle.gossip.proofs.Written.{length-parts, put_none, put_more, put_all}
 use Rattle.gossip.proofs.writer.put_timestamp.Goals as goal
 
-pub loop-i-init : goal.loop-i-init
-loop-i-init c = written_start (bytes 4) 4 _ _ _
+pub loop-part-init : goal.loop-part-init
+loop-part-init c = put_none (bytes 4) c.prefix-part-items.result.now _
 
-pub loop-i-preserved : goal.loop-i-preserved
-loop-i-preserved c =
-    written_next (bytes 4) 4 _ _ _ _ _ _ 0 _ _ c.loop-i.invariant (omega arith) c.from.ensures (length-bytes 4 _) (omega arith) (omega arith) c.put.ensures
+pub put-requires : goal.put-requires
+put-requires c =
+    let ps = c.prefix-part-items.result.now in
+    let i = c.loop-part.part-index in
+    let l = ap length c.loop-part.invariant ∙ length-append c.args.out.now.items (joined (bytes 4) (take i ps)) in
+    let m = length-parts (take i ps) in
+    let k = length-take-le i ps (omega arith) in
+    let all = ap (λ qs. length (joined (bytes 4) qs)) c.prefix-part-items.ensures.answer in
+    omega (arith, length-parts ps)
+
+pub loop-part-preserved : goal.loop-part-preserved
+loop-part-preserved c =
+    put_more (bytes 4) c.prefix-part-items.result.now _ c.loop-part.part-index _ _ _ c.loop-part-test.true c.loop-part.invariant
+    (c.put.ensures ∙ ap (λ z. c.loop-part.out.items ++ z) (c.to_le_bytes.ensures ∙ le_bytes_four _))
 
 pub returns : goal.returns
 returns c =
-    let e : c.loop-i.i ≡ c.args.n = omega arith in
-    let m : c.loop-i.i * 4 ≡ 4 * c.args.n = omega arith in
-    record { written = cc; long = cc }
+    let o = c.args.out.now.items in
+    put_all (bytes 4) c.prefix-part-items.result.now o c.loop-part.part-index _ c.loop-part-test.false c.loop-part.invariant ∙ ap (λ ps. o ++ joined (bytes 4) ps) c.prefix-part-items.ensures.answer

@@ -1,6 +1,6 @@
-use Rattle.gossip.specs.Numbers.{bytes}
-use Rattle.gossip.proofs.Written.{Written}
+use Rattle.std.proofs.Common.{◌≡◌, ◌++◌, take}
+use Rattle.gossip.specs.Numbers.{bytes, joined}
 use Rattle.gossip.proofs.writer.put_timestamp.Given as goal
 
-abbrev pub invariant-loop-i : goal.invariant-loop-i
-invariant-loop-i l = Written (bytes 4) 4 l.at l.timestamp.parts l.initial.out l.i l.out
+abbrev pub invariant-loop-part : goal.invariant-loop-part
+invariant-loop-part l = l.out.items ≡ l.initial.out.items ++ joined (bytes 4) (take l.part-index l.part-items)

@@ -1,17 +1,17 @@
-use Rattle.std.proofs.Common.{ltb, take, sym, ap, ◌∙◌, arith}
-use Rattle.std.proofs.lemmas.List.{length-map, length-take-le}
-use Rattle.gossip.specs.Messages.{seats}
-use Rattle.gossip.proofs.Sound.{rises_push, last_seat, parts}
+use Rattle.std.proofs.Common.{[], ◌∷◌, ◌++◌, sym, ap}
+use Rattle.gossip.specs.Messages.{rises, seats}
+use Rattle.gossip.proofs.Sound.{rises_last, no_last, parts}
 use Rattle.gossip.proofs.message.Gossip.rises_to.Goals as goal
 
-pub returns-else-self-eq0 : goal.returns-else-self-eq0
-returns-else-self-eq0 c =
-    let g = c.args.self.now in
-    let k = g.count in
-    let es = take g.count g.entries in
-    let l = length-map (take g.count g.entries) (λ e. e.seat) in
-    let m = length-take-le g.count g.entries (omega arith) in
-    record {
-      answer = ap (λ x. ltb x c.args.seat) (sym (last_seat g.entries k _ (omega arith) (omega arith)))
-          ∙ rises_push (seats es) c.args.seat (parts record { head = g.head; entries = es } g.sound).rising (omega arith);
-    }
+pub returns-in-Some : goal.returns-in-Some
+returns-in-Some c =
+    let m = c.args.self.now in
+    let es = c.entries.ensures.answer in
+    let last = rw (c.in-Some.is, c.entries.ensures.answer) at c.last.ensures.value in
+    record { answer = rises_last m.entries c.in-Some.last.now c.args.seat last (parts m c.entries.ensures.sound).rising }
+
+pub returns-in-None : goal.returns-in-None
+returns-in-None c =
+    let m = c.args.self.now in
+    let none = rw (c.in-None.is, c.entries.ensures.answer) at c.last.ensures.value in
+    record { answer = sym (ap (λ es. rises (seats es ++ c.args.seat ∷ [])) (no_last m.entries none)) }

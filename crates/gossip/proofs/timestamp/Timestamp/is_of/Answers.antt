@@ -1,28 +1,20 @@
-use Rattle.std.proofs.Common.{◌≡◌, ◌^◌, ◌<◌, ◌≤◌, ltb, length, get_or, sym, refl, ap, ◌∙◌, arith, rules}
-use native.Mathlib.Nat.{sub-zero}
-use Rattle.std.proofs.lemmas.List.{take_all}
-use Rattle.std.proofs.lemmas.Bool.{lt-ltb, eq-eqb, and_from}
-use Rattle.gossip.specs.Numbers.{every}
+use Rattle.std.proofs.Common.{◌^◌, ◌<◌, ltb, length, get_or, ◌∙◌, rules}
+use Rattle.std.proofs.lemmas.Bool.{lt-ltb}
 use Rattle.gossip.proofs.Loops.{every_take}
-use Rattle.gossip.proofs.TimestampSteps.{zero_from_more, zero_from_all}
+use Rattle.gossip.proofs.TimestampSteps.{zero_from_past, zero_from_zero}
+use Rattle.gossip.proofs.timestamp.Timestamp.is_of.Goals.{else-i-n-via-then-i-n+else-part-ne0, else-i-n-via-else-i-n}
 use Rattle.gossip.proofs.timestamp.Timestamp.is_of.Goals as goal
-
-pub loop-i-init : goal.loop-i-init
-loop-i-init c = (rw sub-zero, refl)
 
 pub loop-i-preserved : goal.loop-i-preserved
 loop-i-preserved c =
     let s = c.args.self.now.parts in
+    let i = c.loop-i.i in
     let h : c.loop-i.i < length c.args.self.now.parts = search rules in
     let f : get_or c.args.self.now.parts c.loop-i.i 0 < 2 ^ 32 = search rules in
-    (zero_from_more _ _ s c.loop-i.i h ∙ c.loop-i.invariant.0, every_take (λ x. ltb x (2 ^ 32)) s c.loop-i.i 0 h c.loop-i.invariant.1 (lt-ltb _ _ f))
-
-pub returns : goal.returns
-returns c =
-    let s = c.args.self.now.parts in
-    let l : length c.args.self.now.parts ≡ 7 = search rules in
-    let h : length c.args.self.now.parts ≤ c.loop-i.i = omega arith in
     record {
-      answer = sym (zero_from_all _ c.args.n s c.loop-i.i h) ∙ c.loop-i.invariant.0;
-      wide = and_from _ _ (eq-eqb _ 7 l) (sym (ap (every (λ x. ltb x (2 ^ 32))) (take_all c.loop-i.i s h)) ∙ c.loop-i.invariant.1);
+      zero = elim c.else-i-n.branch [
+        | else-i-n-via-then-i-n+else-part-ne0 w ↦ zero_from_zero c.args.n s i h (search rules) (search rules) ∙ c.loop-i.invariant.zero
+        | else-i-n-via-else-i-n w ↦ zero_from_past c.args.n s i h (search rules) ∙ c.loop-i.invariant.zero
+      ];
+      wide = every_take (λ x. ltb x (2 ^ 32)) s i 0 h c.loop-i.invariant.wide (lt-ltb _ _ f);
     }

@@ -1,15 +1,12 @@
-use Rattle.std.proofs.Common.{◌<◌, ◌≤◌, length, sym, ◌∙◌, arith, length-set, rules}
-use Rattle.gossip.proofs.TimestampSteps.{merged_more, merged_all}
+use Rattle.std.proofs.Common.{◌≡◌, ℕ, max, length, get_or, sym, ◌∙◌, rules}
+use Rattle.gossip.proofs.Arrays.{made_list}
+use Rattle.gossip.proofs.TimestampSteps.{merged-list}
 use Rattle.gossip.proofs.timestamp.Timestamp.merge.Goals as goal
-
-pub loop-i-preserved : goal.loop-i-preserved
-loop-i-preserved c =
-    let h : c.loop-i.i < length c.loop-i.self.parts = omega arith in
-    let k : c.loop-i.i < length c.args.other.now.parts = search rules in
-    (simp length-set c.loop-i.invariant.0, simp c.max-larger.ensures (merged_more _ _ _ h k ∙ c.loop-i.invariant.1))
 
 pub returns : goal.returns
 returns c =
-    let h : length c.loop-i.self.parts ≤ c.loop-i.i = omega arith in
-    let k : length c.args.other.now.parts ≤ c.loop-i.i = search rules in
-    record { after = sym (merged_all _ _ _ h k) ∙ c.loop-i.invariant.1 }
+    let s = c.args.self.now.parts in
+    let t = c.args.other.now.parts in
+    let l : length c.args.self.now.parts ≡ 7 = search rules in
+    let m : length c.args.other.now.parts ≡ 7 = search rules in
+    record { after = made_list _ _ (λ (i : ℕ). max (get_or s i 0) (get_or t i 0)) (λ i x q h. search rules) _ 7 0 c.from_fn-self.ensures.items ∙ sym (merged-list s t 7 l m) }
