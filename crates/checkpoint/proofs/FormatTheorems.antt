@@ -1,5 +1,5 @@
 -- Reading and writing undo each other: a sound checkpoint is read back from its spelling, and what reads is sound and spelled in one way.
-use Rattle.std.proofs.Common.{◌≡◌, ℕ, ◌+◌, true, ◌&&◌, eqb, List, ◌++◌, length, get_or, take, drop, Ok, sym, ap, ◌∙◌, arith, length-append, length-drop, take-append-drop, take_at, drop_at}
+use Rattle.std.proofs.Common.{◌≡◌, ℕ, ◌+◌, true, ◌&&◌, eqb, List, ◌++◌, length, get_or, take, drop, Ok, Err, Result, sym, ap, ◌∙◌, arith, length-append, length-drop, take-append-drop, take_at, drop_at}
 use lib.ListN.{get_or-append}
 use lib.Seq.{take-append-le, drop-append-le}
 use Rattle.std.proofs.lemmas.Bool.{and_parts, and_from, eq-eqb, eqb-true}
@@ -8,6 +8,7 @@ use Rattle.gossip.specs.Lattices.{Kind}
 use Rattle.gossip.specs.Messages.{Message, of_kind}
 use Rattle.gossip.specs.Numbers.{number, joined}
 use Rattle.gossip.specs.Refusals.{and_then}
+use Rattle.gossip.specs.declared.refusal.Refusal.{Refusal}
 use Rattle.gossip.proofs.FormatTheorems as gossip
 use Rattle.gossip.proofs.NumberLaws.{bytes_take, bytes_drop}
 use Rattle.gossip.proofs.Sound.{parts, head_to_parts}
@@ -16,6 +17,8 @@ use Rattle.gossip.proofs.Written.{message_fits}
 use Rattle.checkpoint.specs.Checkpoints.{Saved, sound_saved, rows_all_hold}
 use Rattle.checkpoint.specs.Format.{decode_saved, encode_saved, front_length, rows_at, rows_length, with_rows_of}
 use Rattle.checkpoint.specs.FormatLaws.{ReadsBack, SoleSpelling, ReadsSound, Lengths}
+use Rattle.checkpoint.specs.Refusals.{refused}
+use Rattle.checkpoint.specs.declared.unreadable.Unreadable.TheVariants.{Rows}
 use Rattle.checkpoint.proofs.RowBytes.{rows_back, rows_fit, rows_long, rows_at-sound, rows_at-spelled}
 use Rattle.checkpoint.proofs.Rows.{saved_parts}
 
@@ -43,8 +46,8 @@ reads_back k laws c s o =
     let long = rows_long h.n h.timestamp c.rows p.head.most p.rows in
     let back = rows_back h.n h.timestamp c.rows p.head.most p.rows p.head.zeros in
     let hold = and_from _ _ p.rows.beneath p.above in
-    (λ i. and_then (decode k (front i)) (λ x. with_rows_of x (rest i))) ∙ ap (λ z. and_then z (λ x. with_rows_of x r)) d
-    ∙ passed _ 0 _ _ (and_from _ _ (eq-eqb _ _ long) (ap (rows_all_hold h.sender h.timestamp) back ∙ hold)) (ap (λ rows. Ok record { message = m; rows = rows }) back)
+    (λ i. and_then (refused (decode k (front i))) (λ x. with_rows_of x (rest i))) ∙ ap (λ z. and_then (refused z) (λ x. with_rows_of x r)) d
+    ∙ passed _ Rows _ _ (and_from _ _ (eq-eqb _ _ long) (ap (rows_all_hold h.sender h.timestamp) back ∙ hold)) (ap (λ rows. Ok record { message = m; rows = rows }) back)
 
 -- a checkpoint is as long as the format says
 pub saved_long : (k : Kind) (c : Saved) → sound_saved c ≡ true → length (encode_saved k c) ≡ message_length c.message.head.n (length c.message.entries) + rows_length c.message.head.n
@@ -66,6 +69,10 @@ lengths = record {
 
 -- What reads
 
+refused_ok : {X : Type 0} (r : Result X Refusal) (x : X) → refused r ≡ Ok x → r ≡ Ok x
+refused_ok (Ok y) x e = cc
+refused_ok (Err e) x f = cc
+
 -- a checkpoint is the message that the front spells, and the rows that the rest spells
 record SavedRead (k : Kind) (b : List ℕ) (c : Saved) : Type 0 where
   message : Message
@@ -78,11 +85,11 @@ saved_read : (k : Kind) (b : List ℕ) (c : Saved) → decode_saved k b ≡ Ok c
 unfolding decode_saved
 saved_read k b c e =
     let r = drop (front_length b) b in
-    let a = and_then_ok (decode k (take (front_length b) b)) (λ m. with_rows_of m r) c e in
+    let a = and_then_ok (refused (decode k (take (front_length b) b))) (λ m. with_rows_of m r) c e in
     let h = a.0.head in
-    let u = unless_ok (eqb (length r) (rows_length h.n) && rows_all_hold h.sender h.timestamp (rows_at h.n r)) 0 _ c a.2 in
+    let u = unless_ok (eqb (length r) (rows_length h.n) && rows_all_hold h.sender h.timestamp (rows_at h.n r)) Rows _ c a.2 in
     let t = and_parts (eqb (length r) (rows_length h.n)) _ u.0 in
-    record { message = a.0; front = a.1; square = eqb-true _ _ t.0; hold = t.1; same = cc u.1 }
+    record { message = a.0; front = refused_ok _ _ a.1; square = eqb-true _ _ t.0; hold = t.1; same = cc u.1 }
 
 pub sole_spelling : SoleSpelling
 unfolding encode_saved

@@ -1,16 +1,19 @@
 -- Rows in bytes: the bytes spell the first n parts of n rows, and the rows behind these are zero.
-use Rattle.std.proofs.Common.{◌≡◌, ℕ, zero, suc, ◌-◌, ◌*◌, ◌≤◌, true, List, [], ◌∷◌, ◌++◌, map, length, take, drop, replicate, sym, refl, ap, ◌∙◌, append-nil, mul-le-mul, arith, length-append, length-drop, take-append-drop, length-take-le, take_at, drop_at}
+use Rattle.std.proofs.Common.{◌≡◌, ℕ, zero, suc, ◌-◌, ◌*◌, ◌<◌, ◌≤◌, true, cond, ltb, ◌⊎◌, inl, inr, get_or, List, [], ◌∷◌, ◌++◌, map, length, take, drop, replicate, sym, refl, ap, ◌∙◌, append-nil, mul-le-mul, arith, length-append, length-drop, take-append-drop, length-take-le, take_at, drop_at}
 use lib.ListN.{length-map, length-replicate}
-use Rattle.std.specs.List.{AllByRecursion as All}
-use Rattle.std.proofs.lemmas.List.{drop_all}
-use Rattle.std.proofs.lemmas.Bool.{and_parts, and_from}
+use Rattle.std.specs.List.{list_all, range_with_len, AllByRecursion as All}
+use Rattle.std.proofs.Math.ListN.{get_or-append}
+use Rattle.std.proofs.Math.Seq.{get_or-append_right}
+use Rattle.std.proofs.lemmas.List.FromFn.{fill_by_all}
+use Rattle.std.proofs.lemmas.List.{drop_all, get_or-map, get_or-replicate}
+use Rattle.std.proofs.lemmas.Bool.{and_parts, and_from, cases_lt, le-ltb, lt-ltb}
 use Rattle.gossip.specs.Format.{encode_timestamp, timestamp_at}
 use Rattle.gossip.specs.Messages.{wide_timestamp}
-use Rattle.gossip.specs.Numbers.{pieces, joined, every, Bytes}
+use Rattle.gossip.specs.Numbers.{pieces, joined, Bytes}
 use Rattle.gossip.specs.Timestamps.{under, zero_from}
 use Rattle.gossip.specs.declared.timestamp.Timestamp.{Timestamp}
 use Rattle.gossip.proofs.Loops.{every_drop}
-use Rattle.gossip.proofs.NumberLaws.{length-pieces}
+use Rattle.gossip.proofs.NumberLaws.{length-pieces, pieces-at}
 use Rattle.gossip.proofs.Spelling.{joined-pieces, length-joined, nothing_behind, pieces-joined, pieces_whole}
 use Rattle.gossip.proofs.TimestampBytes.{every_append, every_front, length-encode_timestamp, timestamp_back, timestamp_at-spelled, timestamp_at_wide, zero_from-under}
 use Rattle.checkpoint.specs.Checkpoints as checkpoints
@@ -27,11 +30,27 @@ rows_fit n h =
 
 -- What reads
 
-wide_zeros : (k : ℕ) → every wide_timestamp (replicate k checkpoints.zero) ≡ true
+-- the rows that are read, one by one
+pub rows-list : (n : ℕ) (b : List ℕ) → n ≤ 7 → rows_at n b ≡ map (λ (i : ℕ). cond (ltb i n) (timestamp_at n (take (4 * n) (drop (i * (4 * n)) b))) checkpoints.zero) (range_with_len 0 7)
+rows-list n b h =
+    let l : length (map (timestamp_at n) (pieces (4 * n) n b)) ≡ n = length-map (pieces (4 * n) n b) (timestamp_at n) ∙ length-pieces (4 * n) n b in
+    fill_by_all _ (rows_at n b) 7 checkpoints.zero (simp (length-append, length-replicate) (omega arith)) (λ k g. at k g (cases_lt k n))
+  where
+    at : (k : ℕ) → k < 7 → (k < n) ⊎ (n ≤ k) → get_or (rows_at n b) k checkpoints.zero ≡ cond (ltb k n) (timestamp_at n (take (4 * n) (drop (k * (4 * n)) b))) checkpoints.zero
+    at k z (inl g) =
+        let l : length (map (timestamp_at n) (pieces (4 * n) n b)) ≡ n = length-map (pieces (4 * n) n b) (timestamp_at n) ∙ length-pieces (4 * n) n b in
+        let p = length-pieces (4 * n) n b in
+        rw (lt-ltb k n g, get_or-append (map (timestamp_at n) (pieces (4 * n) n b)) _ checkpoints.zero k (omega arith))
+        (get_or-map (timestamp_at n) (pieces (4 * n) n b) k [] checkpoints.zero (omega arith) ∙ ap (timestamp_at n) (pieces-at (4 * n) n b k [] g))
+    at k z (inr g) =
+        let l : length (map (timestamp_at n) (pieces (4 * n) n b)) ≡ n = length-map (pieces (4 * n) n b) (timestamp_at n) ∙ length-pieces (4 * n) n b in
+        rw (le-ltb k n g, get_or-append_right (map (timestamp_at n) (pieces (4 * n) n b)) _ k checkpoints.zero (omega arith)) (get_or-replicate (7 - n) _ checkpoints.zero checkpoints.zero (omega arith))
+
+wide_zeros : (k : ℕ) → list_all wide_timestamp (replicate k checkpoints.zero) ≡ true
 wide_zeros zero = refl
 wide_zeros (suc k) = wide_zeros k
 
-zero_zeros : (k : ℕ) → every (λ r. zero_from 0 r.parts) (replicate k checkpoints.zero) ≡ true
+zero_zeros : (k : ℕ) → list_all (λ r. zero_from 0 r.parts) (replicate k checkpoints.zero) ≡ true
 zero_zeros zero = refl
 zero_zeros (suc k) = zero_zeros k
 
@@ -45,7 +64,7 @@ module _ (n : ℕ) (most : n ≤ 7) where
   each_spelled [] h = refl
   each_spelled (p ∷ ps) h = λ i. row-spelled p h.0.0 h.0.1 i ∷ each_spelled ps h.1 i
 
-  each_wide : (ps : List (List ℕ)) → All (λ p. (length p ≡ 4 * n) × Bytes p) ps → every wide_timestamp (map (timestamp_at n) ps) ≡ true
+  each_wide : (ps : List (List ℕ)) → All (λ p. (length p ≡ 4 * n) × Bytes p) ps → list_all wide_timestamp (map (timestamp_at n) ps) ≡ true
   each_wide [] h = refl
   each_wide (p ∷ ps) h = and_from _ _ (timestamp_at_wide n p most h.0.1) (each_wide ps h.1)
 
@@ -60,8 +79,8 @@ module _ (n : ℕ) (most : n ≤ 7) where
     length-rows_at : length (rows_at n b) ≡ 7
     length-rows_at = let l = length-spelled in simp (length-append, length-replicate) (omega arith)
 
-    rows_at_zeros : every (λ r. zero_from 0 r.parts) (drop n (rows_at n b)) ≡ true
-    rows_at_zeros = ap (every (λ r. zero_from 0 r.parts)) (drop_at spelled _ n length-spelled) ∙ zero_zeros (7 - n)
+    rows_at_zeros : list_all (λ r. zero_from 0 r.parts) (drop n (rows_at n b)) ≡ true
+    rows_at_zeros = ap (list_all (λ r. zero_from 0 r.parts)) (drop_at spelled _ n length-spelled) ∙ zero_zeros (7 - n)
 
     module _ (bytes : Bytes b) (square : length b ≡ rows_length n) where
       whole : All (λ p. (length p ≡ 4 * n) × Bytes p) (pieces (4 * n) n b)
@@ -83,7 +102,7 @@ module _ (n : ℕ) (most : n ≤ 7) where
 
 -- n rows of n replicas
 module _ (n : ℕ) (t : Timestamp) (rows : List Timestamp) (most : n ≤ 7) (sound : RowsParts n t rows) where
-  each_long : (rs : List Timestamp) → every wide_timestamp rs ≡ true → All (λ r. length (encode_timestamp n r) ≡ 4 * n) rs
+  each_long : (rs : List Timestamp) → list_all wide_timestamp rs ≡ true → All (λ r. length (encode_timestamp n r) ≡ 4 * n) rs
   each_long [] w = tt
   each_long (r ∷ rs) w = let a = and_parts (wide_timestamp r) _ w in (length-encode_timestamp n r most a.0, each_long rs a.1)
 
@@ -100,7 +119,7 @@ module _ (n : ℕ) (t : Timestamp) (rows : List Timestamp) (most : n ≤ 7) (sou
     row_back : (r : Timestamp) → wide_timestamp r ≡ true → under r.parts t.parts ≡ true → timestamp_at n (encode_timestamp n r) ≡ r
     row_back r w u = ap (timestamp_at n) (sym (append-nil (encode_timestamp n r))) ∙ timestamp_back n r most w [] (zero_from-under n r.parts t.parts u zeros)
 
-    each_back : (rs : List Timestamp) → every wide_timestamp rs ≡ true → every (λ r. under r.parts t.parts) rs ≡ true → map (timestamp_at n) (map (encode_timestamp n) rs) ≡ rs
+    each_back : (rs : List Timestamp) → list_all wide_timestamp rs ≡ true → list_all (λ r. under r.parts t.parts) rs ≡ true → map (timestamp_at n) (map (encode_timestamp n) rs) ≡ rs
     each_back [] w u = refl
     each_back (r ∷ rs) w u =
         let a = and_parts (wide_timestamp r) _ w in

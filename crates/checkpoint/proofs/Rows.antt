@@ -1,14 +1,14 @@
 -- Rows as values: what sound rows say, part by part.
 use Rattle.std.proofs.Common.{◌≡◌, ℕ, ◌<◌, true, eqb, List, [], ◌∷◌, length, drop, replicate, sym, refl, ap, ◌∙◌, arith}
+use Rattle.std.specs.List.{list_all}
 use Rattle.std.proofs.lemmas.Bool.{and_parts, and_from, eqb-true, eq-eqb}
+use Rattle.gossip.specs.UnderLemmas.{under_antisym}
 use Rattle.gossip.specs.Messages.{sound, wide_timestamp}
-use Rattle.gossip.specs.Numbers.{every}
 use Rattle.gossip.specs.Timestamps.{under, zero_from}
 use Rattle.gossip.specs.declared.timestamp.Timestamp.{Timestamp}
 use Rattle.gossip.proofs.Loops.{every-at}
 use Rattle.gossip.proofs.Sound.{HeadParts, parts, head_to_parts}
 use Rattle.gossip.proofs.TimestampBytes.{padded-take}
-use Rattle.gossip.proofs.TimestampLaws.{under_antisym}
 use Rattle.checkpoint.specs.Checkpoints.{Saved, sound_saved, sound_rows, rows_all_hold, row, zero}
 use Rattle.checkpoint.specs.FormatLaws.{OwnRow}
 
@@ -20,7 +20,7 @@ wide_long t w = eqb-true _ 7 (and_parts (eqb (length t.parts) 7) _ w).0
 zero_is : (t : Timestamp) → wide_timestamp t ≡ true → zero_from 0 t.parts ≡ true → t ≡ zero
 zero_is t w z = ap (λ x. record { parts = x }) (sym (padded-take 0 t.parts (omega arith) (wide_long t w) z))
 
-pub zeros_are : (rows : List Timestamp) → every wide_timestamp rows ≡ true → every (λ r. zero_from 0 r.parts) rows ≡ true → rows ≡ replicate (length rows) zero
+pub zeros_are : (rows : List Timestamp) → list_all wide_timestamp rows ≡ true → list_all (λ r. zero_from 0 r.parts) rows ≡ true → rows ≡ replicate (length rows) zero
 zeros_are [] w z = refl
 zeros_are (r ∷ rows) w z =
     let a = and_parts (wide_timestamp r) _ w in
@@ -30,24 +30,24 @@ zeros_are (r ∷ rows) w z =
 -- the parts of sound rows, but for what is told of the own row
 pub record RowsParts (n : ℕ) (t : Timestamp) (rows : List Timestamp) : Type 0 where
   pub long : length rows ≡ 7
-  pub wide : every wide_timestamp rows ≡ true
-  pub zeros : every (λ r. zero_from 0 r.parts) (drop n rows) ≡ true
-  pub beneath : every (λ r. under r.parts t.parts) rows ≡ true
+  pub wide : list_all wide_timestamp rows ≡ true
+  pub zeros : list_all (λ r. zero_from 0 r.parts) (drop n rows) ≡ true
+  pub beneath : list_all (λ r. under r.parts t.parts) rows ≡ true
 
 module _ (n own : ℕ) (t : Timestamp) (rows : List Timestamp) where
   pub rows_parts : sound_rows n own t rows ≡ true → RowsParts n t rows × (under t.parts (row rows own).parts ≡ true)
   rows_parts s =
       let a = and_parts (eqb (length rows) 7) _ s in
-      let b = and_parts (every wide_timestamp rows) _ a.1 in
-      let c = and_parts (every (λ r. zero_from 0 r.parts) (drop n rows)) _ b.1 in
-      let d = and_parts (every (λ r. under r.parts t.parts) rows) _ c.1 in
+      let b = and_parts (list_all wide_timestamp rows) _ a.1 in
+      let c = and_parts (list_all (λ r. zero_from 0 r.parts) (drop n rows)) _ b.1 in
+      let d = and_parts (list_all (λ r. under r.parts t.parts) rows) _ c.1 in
       (record { long = eqb-true _ 7 a.0; wide = b.0; zeros = c.0; beneath = d.0 }, d.1)
 
   pub rows_sound : RowsParts n t rows → under t.parts (row rows own).parts ≡ true → sound_rows n own t rows ≡ true
   rows_sound p o = and_from _ _ (eq-eqb _ 7 p.long) (and_from _ _ p.wide (and_from _ _ p.zeros (and_from _ _ p.beneath o)))
 
   -- seven wide rows, zero from the n-th on, are sound where they hold
-  pub rows_whole : length rows ≡ 7 → every wide_timestamp rows ≡ true → every (λ r. zero_from 0 r.parts) (drop n rows) ≡ true → sound_rows n own t rows ≡ rows_all_hold own t rows
+  pub rows_whole : length rows ≡ 7 → list_all wide_timestamp rows ≡ true → list_all (λ r. zero_from 0 r.parts) (drop n rows) ≡ true → sound_rows n own t rows ≡ rows_all_hold own t rows
   rows_whole l w z = rw (eq-eqb (length rows) 7 l, w, z)
 
 -- a sound checkpoint in its parts

@@ -4,9 +4,10 @@
 -- carried r     20 to 26 for the message; 0 for the rows, the length, the group, n or the replica
 -- cause r       the cause in words
 -- shown r       the three as they are printed, a space between each two
--- outcome f r   a result as a promise speaks of it: f of what was done, or the number that the refusal carries
+-- refused r     a result whose refusal is that of the checkpoint's message
 use Rattle.std.specs.Prelude.{ℕ, List, ◌++◌, Ok, Err, codes, decimal, Result}
 use Rattle.gossip.specs.Refusals as gossip
+use Rattle.gossip.specs.declared.refusal.Refusal.{Refusal}
 use Rattle.checkpoint.specs.declared.unreadable.Unreadable.{Unreadable}
 use Rattle.checkpoint.specs.declared.unreadable.Unreadable.TheVariants.{Message, Rows, Owner}
 
@@ -26,6 +27,6 @@ cause Owner = codes "it is of another group, n or replica"
 abbrev pub shown : Unreadable → List ℕ
 shown r = decimal (number r) ++ (codes " " ++ (decimal (carried r) ++ (codes " " ++ cause r)))
 
-abbrev pub outcome : {T X : Type 0} → (T → X) → Result T Unreadable → Result X ℕ
-outcome f (Ok x) = Ok (f x)
-outcome f (Err e) = Err (carried e)
+abbrev pub refused : {X : Type 0} → Result X Refusal → Result X Unreadable
+refused (Ok x) = Ok x
+refused (Err e) = Err (Message e)

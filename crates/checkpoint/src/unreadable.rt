@@ -1,6 +1,7 @@
 // Why a checkpoint cannot be read.
 ghost use Rattle.std.specs.Prelude.{◌≡◌, Some};
 ghost use Rattle.checkpoint.specs.Refusals.{number, carried, cause, shown};
+ghost use Rattle.checkpoint.specs.declared.unreadable.Unreadable.TheVariants.{Message};
 
 use gossip::Refusal;
 use std::fmt;
@@ -33,8 +34,7 @@ impl Unreadable {
     {
         match self {
             Unreadable::Message(refusal) => refusal.number(),
-            Unreadable::Rows => 0,
-            Unreadable::Owner => 0,
+            Unreadable::Rows | Unreadable::Owner => 0,
         }
     }
 
@@ -55,9 +55,18 @@ impl fmt::Display for Unreadable {
     ghost output = { λ r. Some (shown r) };
 
     fn fmt<W: fmt::Write>(&self, f: &mut fmt::Formatter<W>) -> fmt::Result {
-        let number = self.number();
-        let carried = self.carried();
-        let cause = self.cause();
-        write!(f, "{number} {carried} {cause}")
+        write!(f, "{} {} {}", self.number(), self.carried(), self.cause())
+    }
+}
+
+// Callers can hand it on as any error.
+impl std::error::Error for Unreadable {}
+
+// A checkpoint whose message is refused is refused with it.
+impl From<Refusal> for Unreadable {
+    ghost from_gives = { λ refusal unreadable. unreadable ≡ Message refusal };
+
+    fn from(refusal: Refusal) -> Unreadable {
+        Unreadable::Message(refusal)
     }
 }

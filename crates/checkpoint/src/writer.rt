@@ -3,7 +3,6 @@ ghost use Rattle.std.specs.Prelude.{◌≡◌, ◌+◌, ◌*◌, ◌≤◌, true
 ghost use Rattle.gossip.specs.Format.{encode_timestamp};
 ghost use Rattle.gossip.specs.Messages.{of_kind};
 ghost use Rattle.gossip.specs.Numbers.{joined, put_at};
-ghost use Rattle.checkpoint.specs.Contents.{saved};
 ghost use Rattle.checkpoint.specs.Format.{decode_saved, encode_saved};
 
 use crate::checkpoint::Checkpoint;
@@ -13,9 +12,9 @@ impl Checkpoint {
     // Writes the checkpoint, as one of the lattice's kind, to the front of the bytes and leaves the rest. The answer is its length.
     // The values of its message are not looked at, so it reads back exactly where they are of the kind: for callers that know that they are.
     pub fn write<L: Lattice>(&self, out: &mut [u8; ROOM]) -> usize
-        ensures answer { result ≡ length (encode_saved L.kind (saved self.now)) }
-        ensures buffer { out.new ≡ put_at 0 (encode_saved L.kind (saved self.now)) out.old }
-        ensures back { of_kind L.kind (saved self.now).message ≡ true → decode_saved L.kind (take result out.new) ≡ Ok (saved self.now) }
+        ensures answer { result ≡ length (encode_saved L.kind self.now) }
+        ensures buffer { out.new ≡ put_at 0 (encode_saved L.kind self.now) out.old }
+        ensures back { of_kind L.kind self.now.message ≡ true → decode_saved L.kind (take result out.new) ≡ Ok self.now }
     {
         let at = self.message.spell::<L>(out);
         let n = self.message.head().n;
@@ -33,8 +32,8 @@ fn put_rows(out: &mut [u8], at: usize, n: usize, rows: &[Timestamp])
     ensures long { length (joined (encode_timestamp n) rows.now) ≡ length rows.now * (4 * n) }
 {
     let size = 4 * n;
-    for i in 0..rows.len() {
-        put_row(out, at + i * size, n, &rows[i]);
+    for (i, row) in rows.iter().enumerate() {
+        put_row(out, at + i * size, n, row);
     }
 }
 

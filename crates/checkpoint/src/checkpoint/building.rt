@@ -1,21 +1,19 @@
 // Making a checkpoint, and looking into it.
 ghost use Rattle.std.specs.Prelude.{◌≡◌, true, drop};
-ghost use Rattle.gossip.specs.Contents.{contents};
+ghost use Rattle.std.specs.List.{list_all};
 ghost use Rattle.gossip.specs.Messages.{wide_timestamp};
-ghost use Rattle.gossip.specs.Numbers.{every};
 ghost use Rattle.gossip.specs.Timestamps.{zero_from};
 ghost use Rattle.checkpoint.specs.Checkpoints.{sound_saved, rows_all_hold, row};
-ghost use Rattle.checkpoint.specs.Contents.{saved, joined_to};
-ghost use Rattle.checkpoint.specs.Refusals.{outcome};
+ghost use Rattle.checkpoint.specs.Contents.{joined_to};
 
 use super::Checkpoint;
 use crate::unreadable::Unreadable;
-use gossip::{Gossip, MOST, Timestamp};
+use gossip::{Gossip, Timestamp};
 
 impl Checkpoint {
     // A message with the rows of its sender. Rows that no reader would take are refused.
     pub fn new(message: Gossip, rows: [Timestamp; 7]) -> Result<Checkpoint, Unreadable>
-        ensures answer { outcome saved result ≡ joined_to (contents message) rows }
+        ensures answer { result ≡ joined_to message rows }
     {
         let head = message.head();
         if !rows_hold(&rows, head.sender, &head.timestamp) {
@@ -29,16 +27,16 @@ impl Checkpoint {
 
     // The replica's message.
     pub fn message(&self) -> Gossip
-        ensures answer { contents result ≡ (saved self.now).message }
-        ensures sound { sound_saved (saved self.now) ≡ true }
+        ensures answer { result ≡ self.now.message }
+        ensures sound { sound_saved self.now ≡ true }
     {
         self.message
     }
 
     // The latest timestamp heard from each replica; those past the group's n are zero.
     pub fn rows(&self) -> [Timestamp; 7]
-        ensures answer { result ≡ (saved self.now).rows }
-        ensures sound { sound_saved (saved self.now) ≡ true }
+        ensures answer { result ≡ self.now.rows }
+        ensures sound { sound_saved self.now ≡ true }
     {
         self.rows
     }
@@ -48,39 +46,26 @@ impl Checkpoint {
 // Rows that are under a timestamp are as wide as it, since all have as many parts.
 fn rows_hold(rows: &[Timestamp; 7], own: usize, top: &Timestamp) -> bool
     ensures answer { result ≡ rows_all_hold own top.now rows.now }
-    ensures wide { result ≡ true → wide_timestamp top.now ≡ true → every wide_timestamp rows.now ≡ true }
+    ensures wide { result ≡ true → wide_timestamp top.now ≡ true → list_all wide_timestamp rows.now ≡ true }
 {
-    for i in 0..MOST {
-        let (under, _) = rows[i].compare(top);
-        if !under {
+    for row in rows {
+        if !row.is_under(top) {
             return false;
         }
     }
-    let (_, over) = row_of(rows, own).compare(top);
-    over
+    top.is_under(&row_of(rows, own))
 }
 
 // A replica's row, zero for a replica that there is not.
 fn row_of(rows: &[Timestamp; 7], replica: usize) -> Timestamp
     ensures { result ≡ row rows.now replica }
 {
-    if replica < MOST {
-        rows[replica]
-    } else {
-        Timestamp::zero()
-    }
+    rows.get(replica).copied().unwrap_or(Timestamp::zero())
 }
 
 // Whether the rows from the n-th on are zero.
 fn are_zero(rows: &[Timestamp; 7], n: usize) -> bool
-    ensures { result ≡ every (λ row. zero_from 0 row.parts) (drop n rows.now) }
+    ensures { result ≡ list_all (λ row. zero_from 0 row.parts) (drop n rows.now) }
 {
-    let zero = Timestamp::zero();
-    for i in n..MOST {
-        let (under, _) = rows[i].compare(&zero);
-        if !under {
-            return false;
-        }
-    }
-    true
+    rows.iter().skip(n).all(|row| row.is_of(0))
 }
