@@ -1,6 +1,4 @@
-pub mod Room
 pub mod Puts
-pub mod Columns
-pub mod Tables
+pub mod Places
 pub mod Merges
 pub mod Sweeps

@@ -1,7 +1,6 @@
 -- Entries in the rising order of their seats, and what the calls on a table make of them.
 --
 -- entry u x              the entry of the seat u with the state x
--- entry_at es i          the entry at an index, none past the end
 -- find es u              what is known of a seat
 -- changed es u x         the entry of a seat, if there is one, with another state; every other entry stays
 -- put es u x             the entry of a seat, changed or added in its place
@@ -17,8 +16,8 @@
 -- removable g c rows es  what a sweep removes
 -- survivor g c rows o    what a sweep leaves of what is known of one seat
 -- both join o p          what two tables know of one seat together
-use Rattle.std.specs.Prelude.{ℕ, zero, suc, ◌+◌, max, Bool, false, cond, not, ◌&&◌, List, [], ◌∷◌, length, is_some, Some, None, filter, Option, ◌==◌, nat_le, nat_lt}
-use Rattle.gossip.specs.Numbers.{every}
+use Rattle.std.specs.Prelude.{ℕ, ◌+◌, max, Bool, false, cond, not, ◌&&◌, List, [], ◌∷◌, length, is_none, Some, None, count_by, filter, Option, ◌==◌, nat_le, nat_lt}
+use Rattle.std.specs.List.{list_all}
 use Rattle.gossip.specs.Timestamps.{merged, under}
 use Rattle.gossip.specs.declared.entry.Entry.{Entry}
 use Rattle.gossip.specs.declared.entry.State.{State}
@@ -27,11 +26,6 @@ use Rattle.gossip.specs.declared.timestamp.Timestamp.{Timestamp}
 
 abbrev pub entry : ℕ → State → Entry
 entry u x = record { seat = u; state = x }
-
-abbrev pub entry_at : List Entry → ℕ → Option Entry
-entry_at [] i = None
-entry_at (e ∷ es) zero = Some e
-entry_at (e ∷ es) (suc i) = entry_at es i
 
 abbrev pub find : List Entry → ℕ → Option State
 find [] u = None
@@ -66,11 +60,10 @@ merge join es [] = es
 merge join es (f ∷ fs) = merge join (absorbed join es f.seat f.state) fs
 
 abbrev pub fresh : List Entry → List Entry → ℕ
-fresh es [] = 0
-fresh es (f ∷ fs) = cond (is_some (find es f.seat)) 0 1 + fresh es fs
+fresh es fs = count_by (λ f. is_none (find es f.seat)) fs
 
 abbrev pub under_rows : List ℕ → List Timestamp → Bool
-under_rows s rows = every (λ r. under s r.parts) rows
+under_rows s rows = list_all (λ r. under s r.parts) rows
 
 abbrev pub expired : ℕ → ℕ → List Timestamp → State → Bool
 expired grace clock rows (Value x) = false

@@ -1,5 +1,4 @@
 pub mod Entries
-pub mod Columns
-pub mod Contents
+pub mod Tables
 pub mod Refusals
 pub mod TableLaws

@@ -1,21 +1,14 @@
--- What is proved of every table, and of the definitions that the contracts cite.
+-- What is proved of the definitions that the contracts cite.
 --
--- Sorted     what every table keeps
 -- Lookups    what a look-up of any seat finds after a put, a merge and a sweep
 -- Orders     seats rise after each of them
 -- Sizes      how many entries there are after each of them
-use Rattle.std.specs.Prelude.{◌≡◌, ℕ, ◌+◌, ◌≤◌, true, cond, List, length, is_some, Some, ◌==◌}
+use Rattle.std.specs.Prelude.{◌≡◌, ℕ, ◌+◌, true, cond, List, length, is_some, Some, ◌==◌}
 use Rattle.gossip.specs.Messages.{rises, seats}
 use Rattle.gossip.specs.declared.entry.Entry.{Entry}
 use Rattle.gossip.specs.declared.entry.State.{State}
 use Rattle.gossip.specs.declared.timestamp.Timestamp.{Timestamp}
-use Rattle.table.specs.Contents.{contents}
 use Rattle.table.specs.Entries.{find, changed, put, merge, fresh, both, swept, removable, survivor}
-use Rattle.table.specs.declared.table.Table.{Table}
-
-pub record Sorted : Type 0 where
-  pub rising : (t : Table) → rises (seats (contents t)) ≡ true
-  pub few : (t : Table) → length (contents t) ≤ 64
 
 pub record Lookups : Type 0 where
   -- to change an entry that is there is to put it, so that what holds of a put holds of a state that was lent

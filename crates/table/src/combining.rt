@@ -10,24 +10,21 @@ pub fn combine<L: Lattice>(held: State, other: State) -> State
 {
     match (held, other) {
         (State::Value(x), State::Value(y)) => State::Value(L::join(x, y)),
-        (State::Value(_), State::Tombstone { time, timestamp }) => {
-            State::Tombstone { time, timestamp }
-        }
-        (State::Tombstone { time, timestamp }, State::Value(_)) => {
-            State::Tombstone { time, timestamp }
-        }
+        (State::Value(_), tombstone) | (tombstone, State::Value(_)) => tombstone,
         (
-            State::Tombstone { time, timestamp },
+            State::Tombstone {
+                time,
+                mut timestamp,
+            },
             State::Tombstone {
                 time: later,
                 timestamp: with,
             },
         ) => {
-            let mut merged = timestamp;
-            merged.merge(&with);
+            timestamp.merge(&with);
             State::Tombstone {
                 time: time.max(later),
-                timestamp: merged,
+                timestamp,
             }
         }
     }

@@ -32,8 +32,9 @@ impl fmt::Display for Full {
     ghost output = { λ r. Some (shown r) };
 
     fn fmt<W: fmt::Write>(&self, f: &mut fmt::Formatter<W>) -> fmt::Result {
-        let number = self.number();
-        let cause = self.cause();
-        write!(f, "{number} {cause}")
+        write!(f, "{} {}", self.number(), self.cause())
     }
 }
+
+// Callers can hand it on as any error.
+impl std::error::Error for Full {}

@@ -1,10 +1,15 @@
 // The theorems of this crate, one function each, so that a check asks for their proofs.
-ghost use Rattle.table.specs.TableLaws.{Sorted, Lookups, Orders, Sizes};
+ghost use Rattle.table.specs.TableLaws.{Lookups, Orders, Sizes};
+ghost use Rattle.table.specs.Tables.{Sorted};
+
+use crate::table::Table;
 
 // Every table has at most 64 entries, in the strictly rising order of their seats.
-pub fn tables_are_sorted()
-    ensures sorted { Sorted }
-{}
+pub fn tables_are_sorted(table: &Table)
+    ensures sorted { Sorted table.now }
+{
+    let _ = table.entries();
+}
 
 // What a look-up of any seat finds after a put, a merge and a sweep.
 pub fn lookups_follow()

@@ -1,23 +1,27 @@
 // A replica's entries as they lie in memory.
-ghost use Rattle.std.specs.Prelude.{◌≡◌, ◌≤◌, true, vec_len, vec_capacity};
-ghost use Rattle.gossip.specs.Messages.{rises};
-
-use gossip::State;
+use gossip::Entry;
+use std::marker::Model;
 
 mod changing;
 mod merging;
 mod reading;
 mod sweeping;
 
-// The most entries that a table has, as many as a message can hold.
-const ENTRIES: usize = 64;
-
-// The state at an index is that of the seat there. Seats and states lie apart, so that a state can be lent for a change while no seat can move.
+// The entries, in the rising order of their seats. There is memory for all from the start, so that no later call asks for any.
 #[derive(Drop)]
 pub struct Table {
-    seats: Vec<u64>,
-    states: Vec<State>,
-    ghost room: { (64 ≤ vec_capacity seats) × (64 ≤ vec_capacity states) },
-    ghost few: { (vec_len seats ≤ 64) × (vec_len states ≡ vec_len seats) },
-    ghost rising: { rises seats.items ≡ true },
+    entries: Vec<Entry>,
+}
+
+// Contracts see a table as the list of its entries. Of these the invariant reads the seats alone, so that a state can be lent for a change.
+impl Model for Table {
+    ghost use Rattle.std.specs.Prelude.{◌≤◌, List, vec_capacity};
+    ghost use Rattle.gossip.specs.declared.entry.Entry.{Entry};
+    ghost use Rattle.table.specs.Tables.{Sorted};
+
+    ghost Value = { List Entry };
+
+    ghost view = { λ t. t.entries.items };
+
+    ghost invariant = { λ t. record { sorted : Sorted t.entries.items; room : 64 ≤ vec_capacity t.entries } };
 }
