@@ -1,4 +1,5 @@
 -- Receiving a message, test by test.
+use Rattle.replica.specs.declared.refusal.Refusal.TheVariants.{Full, Group}
 use Rattle.std.proofs.Common.{◌≡◌, ℕ, ◌<◌, true, false, List, length, get_or, set as update, Ok, Err, sym, refl, ap, ◌∙◌}
 use Rattle.std.proofs.lemmas.List.{get_or_default}
 use Rattle.std.proofs.lemmas.Bool.{cond-true, cond-false, and_from, eq-eqb}
@@ -38,17 +39,14 @@ module _ (k : Kind) (p : Membership) (m : Memory) (g : Message) (c : ℕ) where
       let q = of_parts t _ (s ∙ ap (λ (x : Head). merged m.timestamp.parts x.timestamp.parts) e) in
       same_memory a q b (d ∙ (λ i. update (update m.rows (e i).sender (together (row m.rows (e i).sender) (e i).timestamp)) p.replica (q i)))
 
-  pub hear_foreign : is_of p g ≡ false → hear k p m g c ≡ Err 27
-  hear_foreign o = failed _ 27 _ o
-
   module _ (ours : is_of p g ≡ true) where
     pub hear-old : under g.head.timestamp.parts m.timestamp.parts ≡ true → hear k p m g c ≡ stays m old
-    hear-old u = passed _ 27 _ _ ours (cond-true _ _ _ u)
+    hear-old u = passed _ Group _ _ ours (cond-true _ _ _ u)
 
     module _ (news : under g.head.timestamp.parts m.timestamp.parts ≡ false) where
-      pub hear-full : fits (merge k.join m.entries g.entries) ≡ false → hear k p m g c ≡ Err 6
-      hear-full f = passed _ 27 _ _ ours (cond-false _ _ _ news ∙ failed _ 6 _ f)
+      pub hear-full : fits (merge k.join m.entries g.entries) ≡ false → hear k p m g c ≡ Err Full
+      hear-full f = passed _ Group _ _ ours (cond-false _ _ _ news ∙ failed _ Full _ f)
 
       pub hear-new : fits (merge k.join m.entries g.entries) ≡ true
           → hear k p m g c ≡ Ok (record { answer = new (together m.timestamp g.head.timestamp); memory = learnt k p m g c })
-      hear-new f = passed _ 27 _ _ ours (cond-false _ _ _ news ∙ passed _ 6 _ _ f refl)
+      hear-new f = passed _ Group _ _ ours (cond-false _ _ _ news ∙ passed _ Full _ _ f refl)

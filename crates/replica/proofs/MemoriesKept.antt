@@ -1,9 +1,9 @@
 -- What is sound of a replica's memory, part by part, and how each accepted step keeps it so.
 use Rattle.std.proofs.Common.{◌≡◌, ℕ, ◌^◌, ◌<◌, ◌≤◌, true, eqb, ltb, leb, length, take, set as update, replicate, sym, refl, ap, ◌∙◌, arith}
+use Rattle.std.specs.List.{list_all}
 use Rattle.std.proofs.lemmas.Bool.{and_parts, and_from, eqb-true, leb-true, ltb-true}
 use Rattle.gossip.specs.Lattices.{Kind}
 use Rattle.gossip.specs.Messages.{Message, sound, sound_entry, origin, wide_timestamp, wide_state, allowed, latest, rises, seats}
-use Rattle.gossip.specs.Numbers.{every}
 use Rattle.gossip.specs.Timestamps.{part, under, zero_from}
 use Rattle.gossip.specs.declared.entry.State.{State}
 use Rattle.gossip.proofs.Loops.{every-at, every_drop}
@@ -34,7 +34,7 @@ pub record MemoryParts (p : Membership) (m : Memory) : Type 0 where
   pub zeros : zero_from p.n m.timestamp.parts ≡ true
   pub few : length m.entries ≤ 64
   pub rising : rises (seats m.entries) ≡ true
-  pub each : every (sound_entry m.timestamp) m.entries ≡ true
+  pub each : list_all (sound_entry m.timestamp) m.entries ≡ true
   pub rows : RowsParts p.n m.timestamp m.rows
   -- the own row is at or above the timestamp
   pub own : under m.timestamp.parts (row m.rows p.replica).parts ≡ true

@@ -1,6 +1,7 @@
 -- A replica's own checkpoint: what it says is the replica, both ways.
+use Rattle.checkpoint.specs.declared.unreadable.Unreadable.TheVariants.{Owner}
 use Rattle.std.proofs.Common.{◌≡◌, ℕ, ◌≤◌, true, cond, ◌&&◌, eqb, List, [], length, is_ok, Ok, Result, sym, refl, ap, ◌∙◌, arith}
-use Rattle.std.proofs.lemmas.Bool.{and_parts, and_from, eqb-true, eq-eqb, cond-true}
+use Rattle.std.proofs.lemmas.Bool.{and_parts, and_from, eqb-true, eq-eqb, le-leb, cond-true}
 use Rattle.gossip.specs.Lattices.{Kind}
 use Rattle.gossip.specs.Messages.{Message, rises, seats}
 use Rattle.gossip.specs.Refusals.{and_then, unless}
@@ -11,11 +12,9 @@ use Rattle.gossip.proofs.Unless.{passed, unless_ok, and_then_ok}
 use Rattle.checkpoint.specs.Checkpoints.{Saved}
 use Rattle.checkpoint.specs.Format.{decode_saved}
 use Rattle.checkpoint.proofs.FormatTheorems as format
-use Rattle.table.specs.Entries.{merge}
-use Rattle.table.specs.Refusals as table
+use Rattle.table.specs.Entries.{merge, fits}
 use Rattle.table.specs.declared.full.Full.{Full}
 use Rattle.table.proofs.Merges.{merge_none}
-use Rattle.table.proofs.Room.{done}
 use Rattle.replica.specs.Memories.{Memory, saved_of, memory_of}
 use Rattle.replica.specs.Restoring.{is_own, decode_memory, encode_memory}
 use Rattle.replica.specs.StepLaws.{Restores}
@@ -41,14 +40,14 @@ saved_own p m = and_from _ _ (eq-eqb p.group _ refl) (and_from _ _ (eq-eqb p.n _
 -- the checkpoint behind a memory that was read
 read_saved : (k : Kind) (p : Membership) (b : List ℕ) (m : Memory) → decode_memory k p b ≡ Ok m → decode_saved k b ≡ Ok (saved_of p m)
 read_saved k p b m e =
-    let a = and_then_ok (decode_saved k b) (λ c. unless (is_own p c) 0 (Ok (memory_of c))) m e in
-    let d = unless_ok (is_own p a.0) 0 (Ok (memory_of a.0)) m a.2 in
+    let a = and_then_ok (decode_saved k b) (λ c. unless (is_own p c) Owner (Ok (memory_of c))) m e in
+    let d = unless_ok (is_own p a.0) Owner (Ok (memory_of a.0)) m a.2 in
     let f : memory_of a.0 ≡ m = cc d.1 in
     a.1 ∙ ap Ok (sym (own_saved p a.0 d.0) ∙ ap (saved_of p) f)
 
 -- and the other way
 saved_read : (k : Kind) (p : Membership) (b : List ℕ) (c : Saved) → decode_saved k b ≡ Ok c → is_own p c ≡ true → decode_memory k p b ≡ Ok (memory_of c)
-saved_read k p b c e o = ap (λ r. and_then r (λ c. unless (is_own p c) 0 (Ok (memory_of c)))) e ∙ passed _ 0 _ _ o refl
+saved_read k p b c e o = ap (λ r. and_then r (λ c. unless (is_own p c) Owner (Ok (memory_of c)))) e ∙ passed _ Owner _ _ o refl
 
 pub own_read : (k : Kind) (p : Membership) (b : List ℕ) (m : Memory) → decode_saved k b ≡ Ok (saved_of p m) → decode_memory k p b ≡ Ok m
 own_read k p b m e = saved_read k p b (saved_of p m) e (saved_own p m)
@@ -61,12 +60,12 @@ restores = record {
 }
 
 -- a table that was emptied holds a message's entries once it has taken them in
-pub loaded : (join : ℕ → ℕ → ℕ) (fs before es : List Entry) (r : Result (Unit {0}) Full) → before ≡ [] → (rises (seats fs) ≡ true) × (length fs ≤ 64) → table.outcome r ≡ table.if_fits (merge join before fs)
+pub loaded : (join : ℕ → ℕ → ℕ) (fs before es : List Entry) (r : Result (Unit {0}) Full) → before ≡ [] → (rises (seats fs) ≡ true) × (length fs ≤ 64) → is_ok r ≡ fits (merge join before fs)
     → es ≡ cond (is_ok r) (merge join before fs) before → es ≡ fs
 loaded join fs before es r none told q e =
     let m : merge join before fs ≡ fs = ap (λ z. merge join z fs) none ∙ merge_none join fs told.0 in
     let l = told.1 in
-    e ∙ cond-true _ _ _ (done r _ q (omega (arith, ap length m))) ∙ m
+    e ∙ cond-true _ _ _ (q ∙ le-leb _ 64 (omega (arith, ap length m))) ∙ m
 
 -- the fields that are written one by one hold what the checkpoint says
 pub restored_is : (k : Kind) (p : Membership) (b : List ℕ) (s : Saved) (g : Message) (h : Head) (es : List Entry) (rows : List Timestamp) → Ok s ≡ decode_saved k b → g ≡ s.message → h ≡ g.head

@@ -1,12 +1,12 @@
 -- What every replica keeps of its rows: their parts, under a timestamp that grows and when one of them is changed.
 use Rattle.std.proofs.Common.{◌≡◌, ℕ, ◌<◌, ◌≤◌, true, List, set as update, ap, ◌∙◌, arith}
+use Rattle.std.specs.List.{list_all}
 use Rattle.std.proofs.lemmas.List.{length-set, get_or-set_same, drop-set-lt}
 use Rattle.gossip.specs.Messages.{wide_timestamp}
-use Rattle.gossip.specs.Numbers.{every}
 use Rattle.gossip.specs.Timestamps.{under, zero_from}
 use Rattle.gossip.specs.declared.timestamp.Timestamp.{Timestamp}
 use Rattle.gossip.proofs.Loops.{every-at}
-use Rattle.gossip.proofs.TimestampLaws.{under_trans, under_refl}
+use Rattle.gossip.specs.UnderLemmas.{under_trans, under_refl}
 use Rattle.checkpoint.specs.Checkpoints.{zero, row}
 use Rattle.checkpoint.proofs.Rows.{RowsParts}
 use Rattle.replica.proofs.EveryKept.{every_weaker, every_set}
@@ -26,7 +26,7 @@ module _ (n : ℕ) (t : Timestamp) (rows : List Timestamp) (p : RowsParts n t ro
   rows_update i r l w u = record {
     long = length-set rows i r ∙ p.long;
     wide = every_set wide_timestamp rows i r p.wide w;
-    zeros = ap (every (λ r. zero_from 0 r.parts)) (drop-set-lt n rows i r l) ∙ p.zeros;
+    zeros = ap (list_all (λ r. zero_from 0 r.parts)) (drop-set-lt n rows i r l) ∙ p.zeros;
     beneath = every_set (λ r. under r.parts t.parts) rows i r p.beneath u;
   }
 

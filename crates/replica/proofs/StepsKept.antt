@@ -1,4 +1,6 @@
 -- What every step leaves: the memory as it was, or a changed one that is as sound, and of the kind.
+use Rattle.replica.specs.declared.refusal.Refusal.TheVariants.{Value as BadValue, Full, Group, Late, Spent, Time}
+use Rattle.replica.specs.declared.refusal.Refusal.{Refusal}
 use Rattle.std.proofs.Common.{◌≡◌, ℕ, ◌^◌, Bool, true, false, cond, not, ◌&&◌, eqb, ltb, leb, ◌⊎◌, take, Some, None, Ok, Option, Result, sym, refl, ap, ◌∙◌, inl, inr}
 use Rattle.std.proofs.lemmas.Bool.{and_parts, and_from}
 use Rattle.gossip.specs.Lattices.{Kind, Laws}
@@ -7,7 +9,7 @@ use Rattle.gossip.specs.Refusals.{unless}
 use Rattle.gossip.specs.Timestamps.{part, under}
 use Rattle.gossip.specs.declared.entry.State.{State}
 use Rattle.gossip.specs.declared.entry.State.TheVariants.{Value, Tombstone}
-use Rattle.gossip.proofs.TimestampLaws.{under_refl}
+use Rattle.gossip.specs.UnderLemmas.{under_refl}
 use Rattle.gossip.proofs.Unless.{unless_ok, and_then_ok}
 use Rattle.table.specs.Entries.{entry, find, put, fits, merge, added}
 use Rattle.replica.specs.Answers.{old, new, Step}
@@ -42,14 +44,14 @@ Leaves k p m (sweeps c) after =
     (leb c latest ≡ true) × (after ≡ swept_of p m c)
 
 module _ (k : Kind) (p : Membership) (m : Memory) (s : Step) where
-  leaves : (r : Step) → ◌≡◌ {A = Result Step ℕ} (Ok r) (Ok s) → s.memory ≡ r.memory
+  leaves : (r : Step) → ◌≡◌ {A = Result Step Refusal} (Ok r) (Ok s) → s.memory ≡ r.memory
   leaves r e = let f : r ≡ s = cc in ap (λ (z : Step). z.memory) (sym f)
 
   change_leaves : (c u : ℕ) (x : State) → change p m c u x ≡ Ok s → Changed p m c u x s.memory
   change_leaves c u x e =
       let a = and_then_ok (raise p m u x) _ s e in
-      let b = unless_ok (fits (put m.entries u x)) 6 _ a.0 a.1 in
-      let d = unless_ok (ltb (part m.timestamp.parts p.replica) 4294967295) 7 _ a.0 b.1 in
+      let b = unless_ok (fits (put m.entries u x)) Full _ a.0 a.1 in
+      let d = unless_ok (ltb (part m.timestamp.parts p.replica) 4294967295) Spent _ a.0 b.1 in
       let f : a.0 ≡ raised p m = cc in
       record { room = b.0; unspent = d.0; is = leaves _ a.2 ∙ ap (stored p m c u x) f }
 
@@ -67,31 +69,31 @@ module _ (k : Kind) (p : Membership) (m : Memory) (s : Step) where
   deleted_leaves u c x false e = inr (change_leaves c u x e)
 
   hearing_leaves : (g : Message) (c : ℕ) → is_of p g ≡ true → (b : Bool)
-      → cond b (stays m old) (unless (fits (merge k.join m.entries g.entries)) 6 (Ok (record { answer = new (together m.timestamp g.head.timestamp); memory = learnt k p m g c }))) ≡ Ok s
+      → cond b (stays m old) (unless (fits (merge k.join m.entries g.entries)) Full (Ok (record { answer = new (together m.timestamp g.head.timestamp); memory = learnt k p m g c }))) ≡ Ok s
       → (s.memory ≡ m) ⊎ Learnt k p m g c s.memory
   hearing_leaves g c o true e = inl (leaves _ e)
   hearing_leaves g c o false e =
-      let a = unless_ok (fits (merge k.join m.entries g.entries)) 6 _ s e in
+      let a = unless_ok (fits (merge k.join m.entries g.entries)) Full _ s e in
       inr record { ours = o; room = a.0; is = leaves _ a.1 }
 
   pub step_leaves : (d : Deed) → step k p m d ≡ Ok s → Leaves k p m d s.memory
   unfolding step
   step_leaves (enters u x t c) e =
-      let a = unless_ok (leb t latest && leb c latest) 4 _ s e in
-      let b = unless_ok (k.valid x) 3 _ s a.1 in
-      let d = unless_ok (not (is_late p m t c)) 5 _ s b.1 in
+      let a = unless_ok (leb t latest && leb c latest) Time _ s e in
+      let b = unless_ok (k.valid x) BadValue _ s a.1 in
+      let d = unless_ok (not (is_late p m t c)) Late _ s b.1 in
       ((and_parts (leb t latest) _ a.0).1, b.0, entered_leaves u x c (find m.entries u) d.1)
   step_leaves (deletes u t c) e =
-      let a = unless_ok (leb t latest && leb c latest) 4 _ s e in
-      let b = unless_ok (not (is_late p m t c)) 5 _ s a.1 in
+      let a = unless_ok (leb t latest && leb c latest) Time _ s e in
+      let b = unless_ok (not (is_late p m t c)) Late _ s a.1 in
       let d = and_parts (leb t latest) _ a.0 in
       (d.0, d.1, deleted_leaves u c (Tombstone t (raised p m)) (has_tombstone (find m.entries u)) b.1)
   step_leaves (receives g c) e =
-      let a = unless_ok (leb c latest) 4 _ s e in
-      let b = unless_ok (is_of p g) 27 _ s a.1 in
+      let a = unless_ok (leb c latest) Time _ s e in
+      let b = unless_ok (is_of p g) Group _ s a.1 in
       (a.0, hearing_leaves g c b.0 (under g.head.timestamp.parts m.timestamp.parts) b.1)
   step_leaves (sweeps c) e =
-      let a = unless_ok (leb c latest) 4 _ s e in
+      let a = unless_ok (leb c latest) Time _ s e in
       (a.0, leaves _ a.1)
 
 -- A sound memory stays sound

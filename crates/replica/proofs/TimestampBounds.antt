@@ -1,11 +1,12 @@
 -- Bumped and merged timestamps stay in bounds: seven parts of 32 bits, 0 from the n-th on; and what was covered stays covered.
 use Rattle.std.proofs.Common.{◌≡◌, ℕ, zero, suc, ◌+◌, ◌^◌, ◌<◌, max, true, eqb, ltb, List, [], ◌∷◌, length, set, refl, ◌∙◌, arith, length-set}
+use Rattle.std.specs.List.{list_all}
 use Rattle.std.proofs.lemmas.Bool.{and_parts, and_from, eqb-true, eq-eqb, le-leb, ltb-true, lt-ltb}
 use Rattle.gossip.specs.Messages.{wide_timestamp}
-use Rattle.gossip.specs.Numbers.{every}
 use Rattle.gossip.specs.Timestamps.{part, under, merged, bumped, zero_from}
 use Rattle.gossip.specs.declared.timestamp.Timestamp.{Timestamp}
-use Rattle.gossip.proofs.TimestampLaws.{under_refl, length_merged}
+use Rattle.gossip.specs.UnderLemmas.{under_refl}
+use Rattle.gossip.proofs.TimestampLaws.{length_merged}
 use Rattle.replica.proofs.EveryKept.{every_set}
 
 pub under-bumped : (s : List ℕ) (i : ℕ) → under s (bumped s i) ≡ true
@@ -31,12 +32,12 @@ zero_from-merged zero (a ∷ s) (b ∷ t) y z =
     and_from _ _ (eq-eqb (max a b) 0 (omega arith)) (zero_from-merged zero s t v.1 w.1)
 zero_from-merged (suc n) (a ∷ s) (b ∷ t) y z = zero_from-merged n s t y z
 
-pub narrow_merged : (w : ℕ) (s t : List ℕ) → every (λ x. ltb x w) s ≡ true → every (λ x. ltb x w) t ≡ true → every (λ x. ltb x w) (merged s t) ≡ true
+pub narrow_merged : (w : ℕ) (s t : List ℕ) → list_all (λ x. ltb x w) s ≡ true → list_all (λ x. ltb x w) t ≡ true → list_all (λ x. ltb x w) (merged s t) ≡ true
 narrow_merged w [] t y z = z
 narrow_merged w (a ∷ s) [] y z = y
 narrow_merged w (a ∷ s) (b ∷ t) y z =
-    let u = and_parts (ltb a w) (every (λ x. ltb x w) s) y in
-    let v = and_parts (ltb b w) (every (λ x. ltb x w) t) z in
+    let u = and_parts (ltb a w) (list_all (λ x. ltb x w) s) y in
+    let v = and_parts (ltb b w) (list_all (λ x. ltb x w) t) z in
     let d = ltb-true a w u.0 in
     let e = ltb-true b w v.0 in
     and_from _ _ (lt-ltb (max a b) w (omega arith)) (narrow_merged w s t u.1 v.1)
@@ -44,7 +45,7 @@ narrow_merged w (a ∷ s) (b ∷ t) y z =
 -- the parts of a wide timestamp
 pub record WideParts (t : Timestamp) : Type 0 where
   pub seven : length t.parts ≡ 7
-  pub narrow : every (λ x. ltb x (2 ^ 32)) t.parts ≡ true
+  pub narrow : list_all (λ x. ltb x (2 ^ 32)) t.parts ≡ true
 
 pub wide_parts : (t : Timestamp) → wide_timestamp t ≡ true → WideParts t
 wide_parts t w = let a = and_parts (eqb (length t.parts) 7) _ w in record { seven = eqb-true _ 7 a.0; narrow = a.1 }

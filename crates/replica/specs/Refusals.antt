@@ -3,9 +3,10 @@
 -- number r        a refusal's number
 -- cause r         its cause in words
 -- shown r         the two as they are printed, a space between them
--- outcome f r     a result as a promise speaks of it: f of what was done, or the refusal's number
+-- refused r       a result whose refusal is that of a message
 use Rattle.std.specs.Prelude.{ℕ, List, ◌++◌, Ok, Err, codes, decimal, Result}
 use Rattle.gossip.specs.Refusals as gossip
+use Rattle.gossip.specs.declared.refusal.Refusal.{Refusal as MessageRefusal}
 use Rattle.replica.specs.declared.refusal.Refusal.{Refusal}
 use Rattle.replica.specs.declared.refusal.Refusal.TheVariants.{Replica, Value, Time, Late, Full, Spent, Size, Message, Group}
 
@@ -34,6 +35,6 @@ cause Group = codes "a message of another group or n"
 abbrev pub shown : Refusal → List ℕ
 shown r = decimal (number r) ++ (codes " " ++ cause r)
 
-abbrev pub outcome : {T X : Type 0} → (T → X) → Result T Refusal → Result X ℕ
-outcome f (Ok x) = Ok (f x)
-outcome f (Err e) = Err (number e)
+abbrev pub refused : {X : Type 0} → Result X MessageRefusal → Result X Refusal
+refused (Ok x) = Ok x
+refused (Err e) = Err (Message e)

@@ -1,9 +1,9 @@
--- The rule of one replica: what each step answers and leaves, or the number that refuses it, in the order of the refusals.
+-- The rule of one replica: what each step answers and leaves, or the refusal, in their order.
 --
 -- clock_now m c                  the later of the replica's clock and the reading c given
 -- is_late p m t c                the time t and the grace end before the clock now
 -- raised p m                     the timestamp with one more in the replica's own part
--- raise p m u x                  that timestamp, for a change that gives the seat u the state x; or 6 or 7
+-- raise p m u x                  that timestamp, for a change that gives the seat u the state x; or the refusal
 -- stored p m c u x               the seat u has the state x, as an accepted change of this replica
 -- entered k x o                  the state that an enter of the value x gives a seat of which o is known; none where nothing changes
 -- has_tombstone o                a tombstone is known of a seat
@@ -25,9 +25,14 @@ use Rattle.gossip.specs.declared.timestamp.Timestamp.{Timestamp}
 use Rattle.checkpoint.specs.Checkpoints.{row}
 use Rattle.table.specs.Entries as entries
 use Rattle.table.specs.Entries.{find, put, fits, merge, removable}
-use Rattle.replica.specs.Answers.{Answer, set, same, old, new, swept, Step, Reply, known, unknown, behind}
+use Rattle.replica.specs.Answers.{Answer, set, same, old, new, swept, Step}
 use Rattle.replica.specs.Memories.{Memory}
+use Rattle.replica.specs.Refusals.{refused}
 use Rattle.replica.specs.declared.membership.Membership.{Membership}
+use Rattle.replica.specs.declared.outcome.Lookup.{Lookup}
+use Rattle.replica.specs.declared.outcome.Lookup.TheVariants.{Known, Unknown, Behind}
+use Rattle.replica.specs.declared.refusal.Refusal.{Refusal}
+use Rattle.replica.specs.declared.refusal.Refusal.TheVariants.{Value as BadValue, Time, Late, Full, Spent, Group}
 
 abbrev pub clock_now : Memory → ℕ → ℕ
 clock_now m c = max m.clock c
@@ -36,7 +41,7 @@ abbrev pub is_late : Membership → Memory → ℕ → ℕ → Bool
 is_late p m t c = nat_lt (t + p.grace) (clock_now m c)
 
 -- nothing changes
-abbrev pub stays : Memory → Answer → Result Step ℕ
+abbrev pub stays : Memory → Answer → Result Step Refusal
 stays m a = Ok (record { answer = a; memory = m })
 
 -- An accepted change
@@ -44,20 +49,20 @@ stays m a = Ok (record { answer = a; memory = m })
 abbrev pub raised : Membership → Memory → Timestamp
 raised p m = record { parts = bumped m.timestamp.parts p.replica }
 
-abbrev pub raise : Membership → Memory → ℕ → State → Result Timestamp ℕ
+abbrev pub raise : Membership → Memory → ℕ → State → Result Timestamp Refusal
 raise p m u x =
-    unless (fits (put m.entries u x)) 6
-    (unless (nat_lt (part m.timestamp.parts p.replica) 4294967295) 7
+    unless (fits (put m.entries u x)) Full
+    (unless (nat_lt (part m.timestamp.parts p.replica) 4294967295) Spent
     (Ok (raised p m)))
 
 abbrev pub stored : Membership → Memory → ℕ → ℕ → State → Timestamp → Memory
 stored p m c u x s = record { clock = clock_now m c; timestamp = s; entries = put m.entries u x; rows = update m.rows p.replica s }
 
-abbrev pub change : Membership → Memory → ℕ → ℕ → State → Result Step ℕ
+abbrev pub change : Membership → Memory → ℕ → ℕ → State → Result Step Refusal
 change p m c u x = and_then (raise p m u x) (λ s. Ok (record { answer = set s; memory = stored p m c u x s }))
 
 -- the change of a seat's state, if there is one
-abbrev pub change_to : Membership → Memory → ℕ → ℕ → Option State → Result Step ℕ
+abbrev pub change_to : Membership → Memory → ℕ → ℕ → Option State → Result Step Refusal
 change_to p m c u None = stays m (same m.timestamp)
 change_to p m c u (Some x) = change p m c u x
 
@@ -68,11 +73,11 @@ entered k x None = Some (Value x)
 entered k x (Some (Value y)) = cond (k.join y x == y) None (Some (Value (k.join y x)))
 entered k x (Some (Tombstone t s)) = None
 
-abbrev pub enter : Kind → Membership → Memory → ℕ → ℕ → ℕ → ℕ → Result Step ℕ
+abbrev pub enter : Kind → Membership → Memory → ℕ → ℕ → ℕ → ℕ → Result Step Refusal
 enter k p m u x t c =
-    unless (nat_le t latest && nat_le c latest) 4
-    (unless (k.valid x) 3
-    (unless (not (is_late p m t c)) 5
+    unless (nat_le t latest && nat_le c latest) Time
+    (unless (k.valid x) BadValue
+    (unless (not (is_late p m t c)) Late
     (change_to p m c u (entered k x (find m.entries u)))))
 
 -- Delete: a tombstone stays as it is.
@@ -85,10 +90,10 @@ has_tombstone (Some (Tombstone t s)) = true
 abbrev pub deleted : State → Option State → Option State
 deleted x o = cond (has_tombstone o) None (Some x)
 
-abbrev pub delete : Membership → Memory → ℕ → ℕ → ℕ → Result Step ℕ
+abbrev pub delete : Membership → Memory → ℕ → ℕ → ℕ → Result Step Refusal
 delete p m u t c =
-    unless (nat_le t latest && nat_le c latest) 4
-    (unless (not (is_late p m t c)) 5
+    unless (nat_le t latest && nat_le c latest) Time
+    (unless (not (is_late p m t c)) Late
     (change_to p m c u (deleted (Tombstone t (raised p m)) (find m.entries u))))
 
 -- Receive: a message at or under the replica's timestamp has no news.
@@ -111,19 +116,19 @@ learnt k p m g c =
 abbrev pub is_of : Membership → Message → Bool
 is_of p g = g.head.group == p.group && g.head.n == p.n
 
-abbrev pub hear : Kind → Membership → Memory → Message → ℕ → Result Step ℕ
+abbrev pub hear : Kind → Membership → Memory → Message → ℕ → Result Step Refusal
 hear k p m g c =
-    unless (is_of p g) 27
+    unless (is_of p g) Group
     (cond (under g.head.timestamp.parts m.timestamp.parts) (stays m old)
-    (unless (fits (merge k.join m.entries g.entries)) 6
+    (unless (fits (merge k.join m.entries g.entries)) Full
     (Ok (record { answer = new (together m.timestamp g.head.timestamp); memory = learnt k p m g c }))))
 
-abbrev pub receive : Kind → Membership → Memory → Message → ℕ → Result Step ℕ
-receive k p m g c = unless (nat_le c latest) 4 (hear k p m g c)
+abbrev pub receive : Kind → Membership → Memory → Message → ℕ → Result Step Refusal
+receive k p m g c = unless (nat_le c latest) Time (hear k p m g c)
 
 -- a message as bytes
-abbrev pub receive_bytes : Kind → Membership → Memory → List ℕ → ℕ → Result Step ℕ
-receive_bytes k p m b c = unless (nat_le c latest) 4 (and_then (decode k b) (λ g. hear k p m g c))
+abbrev pub receive_bytes : Kind → Membership → Memory → List ℕ → ℕ → Result Step Refusal
+receive_bytes k p m b c = unless (nat_le c latest) Time (and_then (refused (decode k b)) (λ g. hear k p m g c))
 
 -- Sweep: each tombstone goes whose time and grace are over and whose timestamp every replica of the group is known to have passed.
 
@@ -132,9 +137,9 @@ abbrev pub swept_of : Membership → Memory → ℕ → Memory
 swept_of p m c =
     record { clock = clock_now m c; timestamp = m.timestamp; entries = entries.swept p.grace (clock_now m c) (take p.n m.rows) m.entries; rows = m.rows }
 
-abbrev pub sweep : Membership → Memory → ℕ → Result Step ℕ
+abbrev pub sweep : Membership → Memory → ℕ → Result Step Refusal
 sweep p m c =
-    unless (nat_le c latest) 4
+    unless (nat_le c latest) Time
     (Ok (record { answer = swept (length (removable p.grace (clock_now m c) (take p.n m.rows) m.entries)); memory = swept_of p m c }))
 
 -- All steps
@@ -145,7 +150,7 @@ pub data Deed : Type 0 where
   receives : (message : Message) (reading : ℕ) → Deed
   sweeps : (reading : ℕ) → Deed
 
-unfoldable pub step : Kind → Membership → Memory → Deed → Result Step ℕ
+unfoldable pub step : Kind → Membership → Memory → Deed → Result Step Refusal
 step k p m (enters u x t c) = enter k p m u x t c
 step k p m (deletes u t c) = delete p m u t c
 step k p m (receives g c) = receive k p m g c
@@ -153,10 +158,10 @@ step k p m (sweeps c) = sweep p m c
 
 -- Lookup
 
-abbrev pub reply : Timestamp → Option State → Reply
-reply s None = unknown s
-reply s (Some (Value x)) = known x s
-reply s (Some (Tombstone t r)) = unknown s
+abbrev pub reply : Timestamp → Option State → Lookup
+reply s None = Unknown s
+reply s (Some (Value x)) = Known x s
+reply s (Some (Tombstone t r)) = Unknown s
 
-abbrev pub lookup : Memory → ℕ → Timestamp → Reply
-lookup m u asked = cond (under asked.parts m.timestamp.parts) (reply m.timestamp (find m.entries u)) behind
+abbrev pub lookup : Memory → ℕ → Timestamp → Lookup
+lookup m u asked = cond (under asked.parts m.timestamp.parts) (reply m.timestamp (find m.entries u)) Behind

@@ -14,6 +14,7 @@ use Rattle.replica.specs.Answers.{set, same, swept, answered}
 use Rattle.replica.specs.Memories.{Memory}
 use Rattle.replica.specs.Steps.{step, enters, sweeps, is_late}
 use Rattle.replica.specs.declared.membership.Membership.{Membership}
+use Rattle.replica.specs.declared.refusal.Refusal.TheVariants.{Late}
 
 abbrev pub first : Membership
 first = record { n = 2; replica = 0; group = 7; grace = 10 }
@@ -37,7 +38,7 @@ pub record WorkedCases : Type 0 where
   pub more : answered (step counts first holds_five (enters 100 6 20 20)) ≡ Ok (set (at 2 0))
   -- grace 10, clock now 30: time 20 passes, 19 is late
   pub timely : answered (step counts first holds_five (enters 100 6 20 30)) ≡ Ok (set (at 2 0))
-  pub late : answered (step counts first holds_five (enters 100 6 19 30)) ≡ Err 5
+  pub late : answered (step counts first holds_five (enters 100 6 19 30)) ≡ Err Late
   -- the clock counts where it is later than the reading
   pub set_back : is_late first (holding (at 1 0) 30 []) 19 0 ≡ true
   -- deleted at 25 and known to every replica: reading 35 keeps the tombstone, 36 sweeps it

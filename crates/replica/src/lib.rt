@@ -9,6 +9,6 @@ mod refusal;
 mod replica;
 
 pub use membership::Membership;
-pub use outcome::{Change, Lookup, Receipt};
+pub use outcome::{Change, Lookup};
 pub use refusal::Refusal;
 pub use replica::Replica;

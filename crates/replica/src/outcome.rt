@@ -8,13 +8,6 @@ pub enum Change {
     Same(Timestamp),
 }
 
-// The answer to a message: it has no news, or the replica has learnt from it and has this timestamp now.
-#[derive(Clone, Copy, PartialEq, Eq, Debug)]
-pub enum Receipt {
-    Old,
-    New(Timestamp),
-}
-
 // The answer to a lookup: a value, or that the seat has none, with the replica's timestamp; or that the replica is behind the timestamp that was asked.
 #[derive(Clone, Copy, PartialEq, Eq, Debug)]
 pub enum Lookup {

@@ -1,6 +1,7 @@
 // Why a step of a replica is refused.
 ghost use Rattle.std.specs.Prelude.{◌≡◌, Some};
 ghost use Rattle.replica.specs.Refusals.{number, cause, shown};
+ghost use Rattle.replica.specs.declared.refusal.Refusal.TheVariants.{Full, Message};
 
 use std::fmt;
 
@@ -68,8 +69,27 @@ impl fmt::Display for Refusal {
     ghost output = { λ r. Some (shown r) };
 
     fn fmt<W: fmt::Write>(&self, f: &mut fmt::Formatter<W>) -> fmt::Result {
-        let number = self.number();
-        let cause = self.cause();
-        write!(f, "{number} {cause}")
+        write!(f, "{} {}", self.number(), self.cause())
+    }
+}
+
+// Callers can hand it on as any error.
+impl std::error::Error for Refusal {}
+
+// Bytes that are no message refuse the step.
+impl From<gossip::Refusal> for Refusal {
+    ghost from_gives = { λ refusal given. given ≡ Message refusal };
+
+    fn from(refusal: gossip::Refusal) -> Refusal {
+        Refusal::Message(refusal)
+    }
+}
+
+// So does a table that is full.
+impl From<table::Full> for Refusal {
+    ghost from_gives = { λ _ given. given ≡ Full };
+
+    fn from(_: table::Full) -> Refusal {
+        Refusal::Full
     }
 }

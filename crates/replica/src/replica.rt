@@ -1,6 +1,5 @@
 // A replica as it lies in memory.
 ghost use Rattle.std.specs.Prelude.{◌≡◌, true};
-ghost use Rattle.table.specs.Contents.{contents};
 ghost use Rattle.replica.specs.Memories.{sound_memory};
 
 use crate::membership::Membership;
@@ -23,5 +22,5 @@ pub struct Replica {
     timestamp: Timestamp,
     table: Table,
     rows: [Timestamp; 7],
-    ghost sound: { sound_memory membership record { clock = clock; timestamp = timestamp; entries = contents table; rows = rows } ≡ true },
+    ghost sound: { sound_memory membership record { clock = clock; timestamp = timestamp; entries = table; rows = rows } ≡ true },
 }

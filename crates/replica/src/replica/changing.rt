@@ -4,22 +4,15 @@ ghost use Rattle.gossip.specs.Lattices.{Kind};
 ghost use Rattle.gossip.specs.Messages.{latest, wide_state, allowed};
 ghost use Rattle.gossip.specs.declared.entry.State.{State as AnyState};
 ghost use Rattle.gossip.specs.declared.entry.State.TheVariants.{Value};
-ghost use Rattle.table.specs.Contents.{contents};
 ghost use Rattle.table.specs.Entries.{find, put, fits};
 ghost use Rattle.replica.specs.Contents.{memory, change_of, Took};
-ghost use Rattle.replica.specs.Refusals.{outcome};
+ghost use Rattle.gossip.specs.Refusals.{outcome};
 ghost use Rattle.replica.specs.Steps.{step, enters, deletes, raise, stored, entered, has_tombstone};
 
 use super::Replica;
 use crate::outcome::Change;
 use crate::refusal::Refusal;
-use gossip::{Lattice, State, Timestamp};
-
-// The latest time and clock reading, 2^40 - 1.
-pub(super) const LATEST: u64 = 1_099_511_627_775;
-
-// The most entries that a replica has.
-const ENTRIES: usize = 64;
+use gossip::{ENTRIES, LATEST, Lattice, State, Timestamp};
 
 impl Replica {
     // Joins a value to the seat's.
@@ -81,49 +74,41 @@ impl Replica {
 
     // The state that an enter gives a seat; none where nothing changes.
     fn entered<L: Lattice>(&self, seat: u64, value: u64) -> Option<State>
-        ensures answer { result ≡ entered L.kind value (find (contents self.now.table) seat) }
+        ensures answer { result ≡ entered L.kind value (find self.now.table seat) }
     {
         match self.table.find(seat) {
-            Some(state) => match state {
-                State::Value(held) => joined::<L>(held, value),
-                State::Tombstone { .. } => None,
-            },
+            Some(State::Value(held)) => joined::<L>(held, value),
+            Some(State::Tombstone { .. }) => None,
             None => Some(State::Value(value)),
         }
     }
 
     // Whether the seat has a tombstone.
     fn is_deleted(&self, seat: u64) -> bool
-        ensures answer { result ≡ has_tombstone (find (contents self.now.table) seat) }
+        ensures answer { result ≡ has_tombstone (find self.now.table seat) }
     {
-        match self.table.find(seat) {
-            Some(state) => match state {
-                State::Value(_) => false,
-                State::Tombstone { .. } => true,
-            },
-            None => false,
-        }
+        matches!(self.table.find(seat), Some(State::Tombstone { .. }))
     }
 
     // Whether an entry of the seat, changed or added, fits the table.
     fn has_room(&self, seat: u64) -> bool
-        ensures answer { (x : AnyState) → result ≡ fits (put (contents self.now.table) seat x) }
+        ensures answer { (x : AnyState) → result ≡ fits (put self.now.table seat x) }
     {
         self.table.len() < ENTRIES || self.table.find(seat).is_some()
     }
 
     // The timestamp that a change of the seat's entry has.
     fn raised(&self, seat: u64) -> Result<Timestamp, Refusal>
-        ensures answer { (x : AnyState) → outcome (λ t. t) result ≡ raise self.now.membership (memory self.now) seat x }
+        ensures answer { (x : AnyState) → result ≡ raise self.now.membership (memory self.now) seat x }
     {
         if !self.has_room(seat) {
             return Err(Refusal::Full);
         }
         let mut raised = self.timestamp;
-        match raised.bump(self.membership.replica) {
-            Ok(()) => Ok(raised),
-            Err(_) => Err(Refusal::Spent),
-        }
+        let Ok(()) = raised.bump(self.membership.replica) else {
+            return Err(Refusal::Spent);
+        };
+        Ok(raised)
     }
 
     // Gives the seat the state, as a change of this replica that has the timestamp.

@@ -1,6 +1,6 @@
 // Looking into a replica: what it knows of a seat, and what it is.
 ghost use Rattle.std.specs.Prelude.{◌≡◌, true};
-ghost use Rattle.replica.specs.Contents.{memory, reply_of};
+ghost use Rattle.replica.specs.Contents.{memory};
 ghost use Rattle.replica.specs.Memories.{sound_memory};
 ghost use Rattle.replica.specs.Steps.{lookup};
 
@@ -12,19 +12,15 @@ use gossip::{State, Timestamp};
 impl Replica {
     // What is known of a seat, where the asked timestamp is at or under the replica's; else the replica is behind, also where neither is at or under the other.
     pub fn lookup(&self, seat: u64, asked: &Timestamp) -> Lookup
-        ensures answer { reply_of result ≡ lookup (memory self.now) seat asked.now }
+        ensures answer { result ≡ lookup (memory self.now) seat asked.now }
     {
-        let (under, _) = asked.compare(&self.timestamp);
-        if !under {
+        if !asked.is_under(&self.timestamp) {
             return Lookup::Behind;
         }
         let timestamp = self.timestamp;
         match self.table.find(seat) {
-            Some(state) => match state {
-                State::Value(value) => Lookup::Known { value, timestamp },
-                State::Tombstone { .. } => Lookup::Unknown { timestamp },
-            },
-            None => Lookup::Unknown { timestamp },
+            Some(State::Value(value)) => Lookup::Known { value, timestamp },
+            Some(State::Tombstone { .. }) | None => Lookup::Unknown { timestamp },
         }
     }
 

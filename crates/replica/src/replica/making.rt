@@ -1,13 +1,12 @@
 // Making a replica.
-ghost use Rattle.std.specs.Prelude.{◌≡◌, ◌&&◌, is_ok, IfOk, if◌then◌else◌, nat_le};
+ghost use Rattle.std.specs.Prelude.{◌≡◌, is_ok, IfOk, if◌then◌else◌};
 ghost use Rattle.replica.specs.Contents.{memory};
 ghost use Rattle.replica.specs.Memories.{fresh, alone, joins};
-ghost use Rattle.replica.specs.Refusals.{outcome};
 
 use super::Replica;
 use crate::membership::Membership;
 use crate::refusal::Refusal;
-use gossip::{MOST, Timestamp};
+use gossip::{Timestamp, is_group_size};
 use std::alloc::{AllocError, Global};
 use table::Table;
 
@@ -37,11 +36,11 @@ impl Replica {
 
     // Forgets everything and becomes a replica of a group, in the memory that is there; a refusal changes nothing.
     pub fn begin(&mut self, membership: Membership) -> Result<(), Refusal>
-        ensures answer { outcome (λ u. u) result ≡ joins membership }
+        ensures answer { result ≡ joins membership }
         ensures after { memory self.new ≡ (if is_ok result then fresh else memory self.old) }
         ensures member { self.new.membership ≡ (if is_ok result then membership else self.old.membership) }
     {
-        if !is_size(membership.n) {
+        if !is_group_size(membership.n) {
             return Err(Refusal::Size);
         }
         if membership.replica >= membership.n {
@@ -55,11 +54,4 @@ impl Replica {
         self.rows = [zero; 7];
         Ok(())
     }
-}
-
-// Whether a group can have so many replicas.
-fn is_size(n: usize) -> bool
-    ensures { result ≡ (nat_le 1 n && nat_le n 7) }
-{
-    1 <= n && n <= MOST
 }

@@ -1,26 +1,23 @@
 // Taking in the messages of other replicas.
 ghost use Rattle.std.specs.Prelude.{◌≡◌, ◌<◌, true, set as update, nat_le};
-ghost use Rattle.gossip.specs.Contents.{contents as said};
 ghost use Rattle.gossip.specs.Messages.{latest};
 ghost use Rattle.checkpoint.specs.Checkpoints.{row};
 ghost use Rattle.replica.specs.Contents.{memory, receipt_of, Took};
-ghost use Rattle.replica.specs.Refusals.{outcome};
+ghost use Rattle.gossip.specs.Refusals.{outcome};
 ghost use Rattle.replica.specs.Steps.{step, receives, receive_bytes, hear, together};
 
 use super::Replica;
-use super::changing::LATEST;
-use crate::outcome::Receipt;
 use crate::refusal::Refusal;
-use gossip::{Gossip, Head, Lattice, Timestamp};
+use gossip::{Gossip, Head, LATEST, Lattice, Timestamp};
 
 impl Replica {
-    // Takes in a message.
+    // Takes in a message. The answer is the replica's timestamp once it has learnt from it; none where the message has no news.
     pub fn receive<L: Lattice>(
         &mut self,
         message: &Gossip,
         reading: u64,
-    ) -> Result<Receipt, Refusal>
-        ensures step { Took (step L.kind self.old.membership (memory self.old) (receives (said message.now) reading)) self.old (outcome receipt_of result) self.new }
+    ) -> Result<Option<Timestamp>, Refusal>
+        ensures step { Took (step L.kind self.old.membership (memory self.old) (receives (message.now) reading)) self.old (outcome receipt_of result) self.new }
     {
         if reading > LATEST {
             return Err(Refusal::Time);
@@ -28,49 +25,45 @@ impl Replica {
         self.hear::<L>(message, reading)
     }
 
-    // Takes in a message given as bytes.
+    // Takes in a message given as bytes, with the same answer.
     pub fn receive_bytes<L: Lattice>(
         &mut self,
         bytes: &[u8],
         reading: u64,
-    ) -> Result<Receipt, Refusal>
+    ) -> Result<Option<Timestamp>, Refusal>
         ensures step { Took (receive_bytes L.kind self.old.membership (memory self.old) bytes.now reading) self.old (outcome receipt_of result) self.new }
     {
         if reading > LATEST {
             return Err(Refusal::Time);
         }
-        match Gossip::read::<L>(bytes) {
-            Ok(message) => self.hear::<L>(&message, reading),
-            Err(refusal) => Err(Refusal::Message(refusal)),
-        }
+        let message = Gossip::read::<L>(bytes)?;
+        self.hear::<L>(&message, reading)
     }
 
     // Takes in a message that was read, unless it is another group's or has no news. The table is merged first, since it alone can refuse.
-    fn hear<L: Lattice>(&mut self, message: &Gossip, reading: u64) -> Result<Receipt, Refusal>
+    fn hear<L: Lattice>(
+        &mut self,
+        message: &Gossip,
+        reading: u64,
+    ) -> Result<Option<Timestamp>, Refusal>
         requires { nat_le reading latest ≡ true }
-        ensures step { Took (hear L.kind self.old.membership (memory self.old) (said message.now) reading) self.old (outcome receipt_of result) self.new }
+        ensures step { Took (hear L.kind self.old.membership (memory self.old) (message.now) reading) self.old (outcome receipt_of result) self.new }
     {
         let head = message.head();
-        if head.group != self.membership.group {
+        if head.group != self.membership.group || head.n != self.membership.n {
             return Err(Refusal::Group);
         }
-        if head.n != self.membership.n {
-            return Err(Refusal::Group);
-        }
-        let (under, _) = head.timestamp.compare(&self.timestamp);
-        if under {
-            return Ok(Receipt::Old);
+        if head.timestamp.is_under(&self.timestamp) {
+            return Ok(None);
         }
         let mut timestamp = self.timestamp;
         timestamp.merge(&head.timestamp);
         let rows = self.rows_with(&head, timestamp);
-        if self.table.merge::<L>(message).is_err() {
-            return Err(Refusal::Full);
-        }
+        self.table.merge::<L>(message)?;
         self.clock = self.clock.max(reading);
         self.timestamp = timestamp;
         self.rows = rows;
-        Ok(Receipt::New(timestamp))
+        Ok(Some(timestamp))
     }
 
     // The rows once a message is taken in: its sender's row takes in its timestamp, and the own row is the replica's new timestamp.

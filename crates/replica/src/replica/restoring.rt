@@ -1,6 +1,6 @@
 // Becoming again what a checkpoint says.
 ghost use Rattle.std.specs.Prelude.{◌≡◌, true, ◌&&◌, OnOk, ◌==◌};
-ghost use Rattle.checkpoint.specs.Refusals.{outcome};
+ghost use Rattle.gossip.specs.Refusals.{outcome};
 ghost use Rattle.replica.specs.Contents.{memory};
 ghost use Rattle.replica.specs.Memories.{of_kind_memory};
 ghost use Rattle.replica.specs.Restoring.{encode_memory, decode_memory, restored};

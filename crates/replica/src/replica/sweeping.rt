@@ -2,12 +2,12 @@
 ghost use Rattle.gossip.specs.Lattices.{Kind};
 ghost use Rattle.replica.specs.Answers.{swept};
 ghost use Rattle.replica.specs.Contents.{memory, Took};
-ghost use Rattle.replica.specs.Refusals.{outcome};
+ghost use Rattle.gossip.specs.Refusals.{outcome};
 ghost use Rattle.replica.specs.Steps.{step, sweeps};
 
 use super::Replica;
-use super::changing::LATEST;
 use crate::refusal::Refusal;
+use gossip::LATEST;
 
 impl Replica {
     // Removes each tombstone whose time and grace are over and whose timestamp is at or under the row of every replica, and answers how many.

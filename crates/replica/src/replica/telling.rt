@@ -1,9 +1,7 @@
 // What a replica tells and saves: its message and its checkpoint, as values and as bytes.
 ghost use Rattle.std.specs.Prelude.{◌≡◌, true, [], length, take, Ok};
-ghost use Rattle.gossip.specs.Contents.{contents as said};
 ghost use Rattle.gossip.specs.Format.{decode, encode};
 ghost use Rattle.gossip.specs.Numbers.{put_at};
-ghost use Rattle.checkpoint.specs.Contents.{saved};
 ghost use Rattle.replica.specs.Contents.{memory};
 ghost use Rattle.replica.specs.Memories.{message_of, saved_of, of_kind_memory};
 ghost use Rattle.replica.specs.Restoring.{encode_memory, decode_memory};
@@ -15,20 +13,18 @@ use gossip::{Gossip, Head, Lattice, ROOM};
 impl Replica {
     // The message that tells what the replica knows.
     pub fn message(&self) -> Gossip
-        ensures answer { said result ≡ message_of self.now.membership (memory self.now) }
+        ensures answer { result ≡ message_of self.now.membership (memory self.now) }
     {
         let mut message = self.opening();
-        for i in 0..self.table.len() {
-            if let Some(entry) = self.table.entry(i) {
-                let _ = message.push(entry);
-            }
+        for entry in self.table.entries() {
+            let _ = message.push(*entry);
         }
         message
     }
 
     // Its checkpoint: the message, and the rows.
     pub fn checkpoint(&self) -> Checkpoint
-        ensures answer { saved result ≡ saved_of self.now.membership (memory self.now) }
+        ensures answer { result ≡ saved_of self.now.membership (memory self.now) }
     {
         Checkpoint::new(self.message(), self.rows).unwrap()
     }
@@ -53,7 +49,7 @@ impl Replica {
 
     // Its message without the entries.
     fn opening(&self) -> Gossip
-        ensures answer { said result ≡ record { head = (message_of self.now.membership (memory self.now)).head; entries = [] } }
+        ensures answer { result ≡ record { head = (message_of self.now.membership (memory self.now)).head; entries = [] } }
     {
         let head = Head {
             n: self.membership.n,

@@ -1,10 +1,11 @@
+use Rattle.replica.specs.declared.refusal.Refusal.TheVariants.{Late, Time}
 use Rattle.std.proofs.Common.{cond, Some, None, sym, refl, ap, ◌∙◌}
 use Rattle.std.proofs.lemmas.Result.{err_from_is_err_and}
 use Rattle.std.proofs.lemmas.Bool.{and_parts, and_from}
 use Rattle.gossip.specs.Messages.{wide_timestamp}
 use Rattle.gossip.specs.declared.entry.State.TheVariants.{Tombstone}
 use Rattle.gossip.specs.declared.timestamp.Timestamp.{Timestamp}
-use Rattle.gossip.proofs.TimestampLaws.{under_refl}
+use Rattle.gossip.specs.UnderLemmas.{under_refl}
 use Rattle.replica.specs.Answers.{set, same}
 use Rattle.replica.specs.Contents.{memory}
 use Rattle.replica.specs.Steps.{raised, stored}
@@ -14,12 +15,12 @@ use Rattle.replica.proofs.Taken.{refused, took}
 use Rattle.replica.proofs.replica.Replica.delete.Goals as goal
 
 pub returns-then-not-are_times : goal.returns-then-not-are_times
-returns-then-not-are_times c = record { step = λ k. refused _ _ 4 _ (delete_untimely _ _ _ _ _ _ (sym c.if-not-are_times.ensures)) refl refl }
+returns-then-not-are_times c = record { step = λ k. refused _ _ Time _ (delete_untimely _ _ _ _ _ _ (sym c.if-not-are_times.ensures)) refl refl }
 
 pub returns-then-is_late : goal.returns-then-is_late
 unfolding memory
 returns-then-is_late c =
-    record { step = λ k. refused _ _ 5 _ (delete-late _ _ (memory c.args.self.now) _ _ _ (sym c.if-not-are_times.ensures) (sym c.if-is_late.ensures.answer)) refl refl }
+    record { step = λ k. refused _ _ Late _ (delete-late _ _ (memory c.args.self.now) _ _ _ (sym c.if-not-are_times.ensures) (sym c.if-is_late.ensures.answer)) refl refl }
 
 pub returns-then-is_deleted : goal.returns-then-is_deleted
 unfolding memory

@@ -1,7 +1,7 @@
+use Rattle.replica.specs.declared.refusal.Refusal.TheVariants.{Value as BadValue, Late, Time}
 use Rattle.std.proofs.Common.{Some, None, sym, refl}
 use Rattle.std.proofs.lemmas.Result.{err_from_is_err_and}
 use Rattle.std.proofs.lemmas.Bool.{and_parts}
-use Rattle.table.specs.Contents.{contents}
 use Rattle.table.specs.Entries.{find}
 use Rattle.replica.specs.Answers.{set, same}
 use Rattle.replica.specs.Contents.{memory}
@@ -11,17 +11,17 @@ use Rattle.replica.proofs.Taken.{refused, took}
 use Rattle.replica.proofs.replica.Replica.enter.Goals as goal
 
 pub returns-then-not-are_times : goal.returns-then-not-are_times
-returns-then-not-are_times g c = record { step = refused _ _ 4 _ (enter_untimely _ _ _ _ _ _ _ (sym c.if-not-are_times.ensures)) refl refl }
+returns-then-not-are_times g c = record { step = refused _ _ Time _ (enter_untimely _ _ _ _ _ _ _ (sym c.if-not-are_times.ensures)) refl refl }
 
 pub returns-then-not-is_value : goal.returns-then-not-is_value
 returns-then-not-is_value g c =
-    record { step = refused _ _ 3 _ (enter-foreign _ _ _ _ _ _ _ (sym c.if-not-are_times.ensures) (sym c.if-not-is_value.ensures.answer)) refl refl }
+    record { step = refused _ _ BadValue _ (enter-foreign _ _ _ _ _ _ _ (sym c.if-not-are_times.ensures) (sym c.if-not-is_value.ensures.answer)) refl refl }
 
 pub returns-then-is_late : goal.returns-then-is_late
 unfolding memory
 returns-then-is_late g c =
     record {
-      step = refused _ _ 5 _
+      step = refused _ _ Late _
           (enter-late _ _ (memory c.args.self.now) _ _ _ _ (sym c.if-not-are_times.ensures) (sym c.if-not-is_value.ensures.answer) (sym c.if-is_late.ensures.answer)) refl refl;
     }
 
@@ -51,7 +51,7 @@ returns-in_err-raised g c =
 pub store-requires : goal.store-requires
 unfolding memory
 store-requires g c =
-    let plain = entered_plain g.L.Lattice.kind c.args.value (find (contents c.args.self.now.table) c.args.seat) c.in-Some.state c.in_ok-raised.raised c.in-Some.ensures.answer in
+    let plain = entered_plain g.L.Lattice.kind c.args.value (find c.args.self.now.table c.args.seat) c.in-Some.state c.in_ok-raised.raised c.in-Some.ensures.answer in
     record {
       raised = sym (c.in_ok-raised.ensures.answer c.in-Some.state);
       reading = (and_parts _ _ (sym c.if-not-are_times.ensures)).1;

@@ -1,8 +1,5 @@
 use Rattle.std.proofs.Common.{sym, refl, ap}
-use Rattle.gossip.specs.Contents.{contents as said}
 use Rattle.gossip.specs.Numbers.{Bytes}
-use Rattle.checkpoint.specs.Contents.{saved}
-use Rattle.table.specs.Contents.{contents}
 use Rattle.table.proofs.Merges.{told_entries}
 use Rattle.replica.specs.Contents.{memory}
 use Rattle.replica.specs.Restoring.{restored}
@@ -15,10 +12,10 @@ invariant_of-self g c =
     let k = g.L.Lattice.kind in
     let p = c.args.self.now.membership in
     let b = c.args.bytes.now in
-    let t = said c.message-message.result in
+    let t = c.message-message.result in
     let h = c.head-head.ensures in
-    let es = loaded k.join t.entries (contents c.clear.new.self) (contents c.merge.new.self) c.merge.result c.clear.ensures.after (told_entries t t.entries refl h.sound) c.merge.ensures.answer c.merge.ensures.after in
-    let e = restored_is k p b (saved c.in_ok-checkpoint.checkpoint) t c.head-head.result _ _ c.in_ok-checkpoint.ensures.answer c.message-message.ensures.answer h.answer (sym c.if-not-is_own.ensures.answer) es c.rows-self.ensures.answer in
+    let es = loaded k.join t.entries c.clear.new.self c.merge.new.self c.merge.result c.clear.ensures.after (told_entries t t.entries refl h.sound) c.merge.ensures.answer c.merge.ensures.after in
+    let e = restored_is k p b c.in_ok-checkpoint.checkpoint t c.head-head.result _ _ c.in_ok-checkpoint.ensures.answer c.message-message.ensures.answer h.answer (sym c.if-not-is_own.ensures.answer) es c.rows-self.ensures.answer in
     record { sound = (restores.reads_sound k p b _ (λ i. (c.type_inv.bytes i).fits) e).0 }
 
 pub returns : goal.returns
@@ -28,10 +25,10 @@ returns g c =
     let p = c.args.self.now.membership in
     let b = c.args.bytes.now in
     let bytes : Bytes b = λ i. (c.type_inv.bytes i).fits in
-    let t = said c.message-message.result in
+    let t = c.message-message.result in
     let h = c.head-head.ensures in
-    let es = loaded k.join t.entries (contents c.clear.new.self) (contents c.merge.new.self) c.merge.result c.clear.ensures.after (told_entries t t.entries refl h.sound) c.merge.ensures.answer c.merge.ensures.after in
-    let e = restored_is k p b (saved c.in_ok-checkpoint.checkpoint) t c.head-head.result _ _ c.in_ok-checkpoint.ensures.answer c.message-message.ensures.answer h.answer (sym c.if-not-is_own.ensures.answer) es c.rows-self.ensures.answer in
+    let es = loaded k.join t.entries c.clear.new.self c.merge.new.self c.merge.result c.clear.ensures.after (told_entries t t.entries refl h.sound) c.merge.ensures.answer c.merge.ensures.after in
+    let e = restored_is k p b c.in_ok-checkpoint.checkpoint t c.head-head.result _ _ c.in_ok-checkpoint.ensures.answer c.message-message.ensures.answer h.answer (sym c.if-not-is_own.ensures.answer) es c.rows-self.ensures.answer in
     record {
       answer = sym e;
       after = sym (ap (λ r. restored r (memory c.args.self.now)) e);

@@ -1,9 +1,7 @@
 use Rattle.std.proofs.Common.{◌≡◌, ℕ, ◌<◌, true, set as update, is_ok, Ok, Result, refl, ap, ◌∙◌, arith}
-use Rattle.std.proofs.lemmas.Bool.{cond-true, leb-true}
-use Rattle.table.specs.Entries.{put}
-use Rattle.table.specs.Refusals.{outcome, if_fits}
+use Rattle.std.proofs.lemmas.Bool.{cond-true}
+use Rattle.table.specs.Entries.{put, fits}
 use Rattle.table.specs.declared.full.Full.{Full}
-use Rattle.table.proofs.Room.{done}
 use Rattle.gossip.specs.declared.entry.State.{State}
 use Rattle.gossip.specs.declared.timestamp.Timestamp.{Timestamp}
 use Rattle.replica.specs.Contents.{memory}
@@ -27,8 +25,8 @@ pub bounds-self-self : goal.bounds-self-self
 bounds-self-self c = within c
 
 -- a put that cannot be refused leaves what the rule says
-left : (p : Membership) (m : Memory) (c u : ℕ) (x : State) (s : Timestamp) → raise p m u x ≡ Ok s → (r : Result (Unit {0}) Full) → outcome r ≡ if_fits (put m.entries u x) → is_ok r ≡ true
-left p m c u x s e r q = done r _ q (leb-true _ 64 (raise_ok p m c u x s e).0)
+left : (p : Membership) (m : Memory) (c u : ℕ) (x : State) (s : Timestamp) → raise p m u x ≡ Ok s → (r : Result (Unit {0}) Full) → is_ok r ≡ fits (put m.entries u x) → is_ok r ≡ true
+left p m c u x s e r q = q ∙ (raise_ok p m c u x s e).0
 
 pub invariant_of-self : goal.invariant_of-self
 unfolding memory
