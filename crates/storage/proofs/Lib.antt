@@ -1,5 +1,6 @@
-pub mod Stores
-pub mod Staging
+pub mod Places
+pub mod Fronts
+pub mod Scans
+pub mod Growing
 pub mod Committing
-pub mod Replaying
 pub mod Moving

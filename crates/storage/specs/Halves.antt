@@ -1,10 +1,10 @@
 -- What a half of a log has.
 --
--- in_use h          the bytes in use
--- contents h        the last bytes of each number
--- staged_head h     the four bytes behind those in use
--- staged_bytes h n  the n bytes behind those four
-use Rattle.std.specs.Prelude.{ℕ, ◌+◌, List, take, drop, vec_items}
+-- in_use h      the bytes in use
+-- contents h    the last bytes of each number
+-- staged h bs   as many bytes behind those in use as the head of bs and bs have
+-- HasRoom h bs  these fit behind the bytes in use
+use Rattle.std.specs.Prelude.{ℕ, ◌+◌, ◌≤◌, List, length, take, drop, vec_items}
 use Rattle.storage.specs.Spans.{indexed}
 use Rattle.storage.specs.declared.log.half.Half.{Half}
 
@@ -14,8 +14,8 @@ in_use h = take h.used (vec_items h.bytes)
 abbrev pub contents : Half → List (List ℕ)
 contents h = indexed (in_use h) h.index
 
-abbrev pub staged_head : Half → List ℕ
-staged_head h = take 4 (drop h.used (vec_items h.bytes))
+abbrev pub staged : Half → List ℕ → List ℕ
+staged h bs = take (4 + length bs) (drop h.used (vec_items h.bytes))
 
-abbrev pub staged_bytes : Half → ℕ → List ℕ
-staged_bytes h n = take n (drop (h.used + 4) (vec_items h.bytes))
+abbrev pub HasRoom : Half → List ℕ → Type 0
+HasRoom h bs = h.used + 4 + length bs ≤ 26592

@@ -6,5 +6,3 @@ pub mod Spans
 pub mod Halves
 pub mod Logged
 pub mod Indexes
-pub mod Scans
-pub mod Slotting

@@ -1,17 +1,19 @@
 -- The bytes of a log, and what a reader finds in them.
 --
 -- head k n            the head of n bytes saved for the number k: the number, a zero, and the length as two bytes, the low one first
+-- encode k bs         how bytes saved for the number k stand in a log: their head, and the bytes behind it
 -- size log            the length that the head at the front gives
 -- sound_head k z n m  a head gives a number k of 0 to 6, a zero z, and a length n of 1 to 3320 that is not more than the m bytes left
 -- sound log           a log begins with a whole sound head and all its bytes
 -- scan f log saved    what the log makes of what was saved before it, by at most f heads; None where it is not a log
 -- read_log log        what a log of at most 26592 bytes says is saved, of each number the last; None where it is not a log
--- or_else o x         what o holds, or x
--- put_at at xs o      o with xs written over it from a place on
 use Rattle.std.specs.Prelude.{ℕ, zero, suc, ◌+◌, ◌-◌, ◌*◌, ◌/◌, ◌%◌, Bool, cond, ◌&&◌, List, [], ◌∷◌, ◌++◌, length, take, drop, replicate, Some, None, Option, ◌==◌, nat_le, slice_index, slice_set}
 
 abbrev pub head : ℕ → ℕ → List ℕ
 head k n = k ∷ 0 ∷ (n % 256) ∷ (n / 256) ∷ []
+
+abbrev pub encode : ℕ → List ℕ → List ℕ
+encode k bs = head k (length bs) ++ bs
 
 abbrev pub size : List ℕ → ℕ
 size log = slice_index log 2 + 256 * slice_index log 3
@@ -29,10 +31,3 @@ scan (suc f) log saved =
 
 unfoldable pub read_log : List ℕ → Option (List (List ℕ))
 read_log log = cond (nat_le (length log) 26592) (scan (length log) log (replicate 7 [])) None
-
-abbrev pub or_else : {X : Type 0} → Option X → X → X
-or_else (Some x) y = x
-or_else None y = y
-
-abbrev pub put_at : ℕ → List ℕ → List ℕ → List ℕ
-put_at at xs o = take at o ++ (xs ++ drop (at + length xs) o)

@@ -3,6 +3,8 @@
 #![tactic(auto)]
 
 mod log;
+mod numbers;
+mod pieces;
 mod refusals;
 mod slots;
 mod store;

@@ -33,10 +33,11 @@ impl fmt::Display for Refusal {
     ghost output = { λ r. Some (cause r) };
 
     fn fmt<W: fmt::Write>(&self, f: &mut fmt::Formatter<W>) -> fmt::Result {
-        let cause = self.cause();
-        write!(f, "{cause}")
+        f.write_str(self.cause())
     }
 }
+
+impl std::error::Error for Refusal {}
 
 // The bytes are not those of a log.
 #[derive(Clone, Copy, PartialEq, Eq, Debug)]
@@ -56,7 +57,8 @@ impl fmt::Display for NotALog {
     ghost output = { λ r. Some not_a_log_cause };
 
     fn fmt<W: fmt::Write>(&self, f: &mut fmt::Formatter<W>) -> fmt::Result {
-        let cause = self.cause();
-        write!(f, "{cause}")
+        f.write_str(self.cause())
     }
 }
+
+impl std::error::Error for NotALog {}

@@ -1,6 +1,7 @@
 // What every store does.
-ghost use Rattle.std.specs.Prelude.{◌≡◌, ℕ, List, [], length, is_ok, if◌then◌else◌, slice_index_or, slice_set};
+ghost use Rattle.std.specs.Prelude.{◌≡◌, ◌≤◌, ℕ, List, [], Ok, Err, nat_le, length, is_ok, if◌then◌else◌, slice_index_or, slice_set};
 ghost use Rattle.storage.specs.Stores.{Places, save_answer, load_answer, fronted};
+ghost use Rattle.storage.specs.declared.refusals.Refusal.TheVariants.{Room};
 
 use crate::refusals::Refusal;
 
@@ -29,4 +30,18 @@ pub trait Store {
         ensures kept { saved self.new ≡ saved self.old };
 
     ghost lawful: { (s : Self) → Places (saved s) };
+}
+
+// Copies bytes that are saved to the front of a buffer, leaves the rest of it, and answers how many they are. Refuses a buffer of less than 3320 bytes, and leaves it then.
+pub(crate) fn load_bytes(saved: &[u8], buffer: &mut [u8]) -> Result<usize, Refusal>
+    requires { length saved.now ≤ 3320 }
+    ensures answer { result ≡ (if nat_le 3320 (length buffer.old) then Ok (length saved.now) else Err Room) }
+    ensures buffer { buffer.new ≡ (if is_ok result then fronted saved.now buffer.old else buffer.old) }
+{
+    if buffer.len() < MAX_BYTES {
+        return Err(Refusal::Room);
+    }
+    let len = saved.len();
+    buffer[..len].copy_from_slice(saved);
+    Ok(len)
 }

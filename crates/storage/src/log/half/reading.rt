@@ -1,35 +1,41 @@
 // Reading a half.
-ghost use Rattle.std.specs.Prelude.{◌≡◌, ◌+◌, ◌≤◌, [], nat_le, slice_index_or};
+ghost use Rattle.std.specs.Prelude.{◌≡◌, ◌+◌, ◌≤◌, [], IfSome, MatchOption, length, nat_le, slice_index_or};
 ghost use Rattle.storage.specs.Halves.{in_use, contents};
 
-use super::{CAPACITY, HEAD, Half};
+use super::{CAPACITY, Half};
+use crate::numbers::Number;
+use crate::pieces::Piece;
 
 impl Half {
     // The bytes in use.
     pub fn in_use(&self) -> &[u8]
         ensures answer { result.now ≡ in_use self.now }
     {
-        let used = self.used;
-        &self.bytes[0..used]
+        &self.bytes[..self.used]
     }
 
-    // The last bytes of a number.
-    pub fn get(&self, number: usize) -> &[u8]
-        requires known { number ≤ 6 }
-        ensures answer { result.now ≡ slice_index_or (contents self.now) number [] }
+    // The last bytes of a number, with it; none where nothing is saved for it.
+    pub fn last(&self, number: Number) -> Option<Piece<'_>>
+        ensures number { IfSome result (λ p. p.number.value ≡ number.value) }
+        ensures bytes { MatchOption result (slice_index_or (contents self.now) number.value [] ≡ []) (λ p. p.bytes.now ≡ slice_index_or (contents self.now) number.value []) }
     {
-        let span = self.index[number];
-        let at = span.at;
-        let end = at + span.len;
-        let log = self.in_use();
-        &log[at..end]
+        let span = self.index[number.value]?;
+        let bytes = &self.in_use()[span.at..span.at + span.len];
+        Some(Piece { number, bytes })
     }
 
-    // Whether so many bytes and their head fit behind those in use.
-    pub fn has_room(&self, len: usize) -> bool
-        requires fits { len ≤ 3320 }
-        ensures answer { result ≡ nat_le (self.now.used + 4 + len) 26592 }
+    // The last bytes of a number, as many as can be saved at most.
+    pub fn get(&self, number: Number) -> &[u8]
+        ensures answer { result.now ≡ slice_index_or (contents self.now) number.value [] }
+        ensures fits { length result.now ≤ 3320 }
     {
-        self.used + HEAD + len <= CAPACITY
+        self.last(number).map_or(&[], |piece| piece.bytes)
+    }
+
+    // Whether a piece fits behind those in use.
+    pub fn has_room(&self, piece: Piece<'_>) -> bool
+        ensures answer { result ≡ nat_le (self.now.used + 4 + length piece.entry.bytes.now) 26592 }
+    {
+        self.used + piece.len() <= CAPACITY
     }
 }

@@ -1,26 +1,20 @@
-use Rattle.std.proofs.Common.{[], sym, refl, ◌∙◌, arith, length-set}
+use Rattle.std.proofs.Common.{Some, refl, sym, ap, ◌∙◌, arith, length-set}
+use Rattle.storage.proofs.Growing.{inside_grown}
 use Rattle.storage.proofs.Committing.{committed_index, committed_read}
-use Rattle.storage.specs.Indexes.{inside_grown}
-use Rattle.storage.specs.Scans.{is_some_lem}
 use Rattle.storage.proofs.log.half.Half.commit.Goals as goal
 
-pub invariant_of-self : goal.invariant_of-self
-invariant_of-self c =
-    let h = c.args.self.now in
-    let k = c.args.number in
-    let n = c.args.len in
-    let p = c.requires in
-    let found = is_some_lem _ [] _ (committed_read h k n p.known p.some p.fits p.within p.staged) in
-    record {
-      whole = h.whole;
-      few = omega arith;
-      seven = length-set _ _ _ ∙ h.seven;
-      inside = inside_grown h.used _ h.index k _ h.seven h.inside (omega arith) (omega arith) p.fits;
-      logs = found.0;
-      reads = found.1 ∙ sym (committed_index h k n p.known p.some p.fits p.within p.staged);
-    }
+pub invariant_of-self-2-clause-seven : goal.invariant_of-self-2-clause-seven
+invariant_of-self-2-clause-seven c = length-set _ _ _ ∙ c.args.self.now.seven
 
-pub returns : goal.returns
-returns c =
-    let p = c.requires in
-    record { after = committed_index c.args.self.now c.args.number c.args.len p.known p.some p.fits p.within p.staged; used = refl }
+pub invariant_of-self-2-clause-inside : goal.invariant_of-self-2-clause-inside
+invariant_of-self-2-clause-inside c = inside_grown c.args.self.now.used _ c.args.self.now.index c.args.piece.number.value _ c.args.self.now.inside (omega arith) (omega arith)
+
+pub invariant_of-self-2-clause-reads : goal.invariant_of-self-2-clause-reads
+invariant_of-self-2-clause-reads c =
+    let h = c.args.self.now in
+    let p = c.args.piece in
+    let r = c.requires in
+    committed_read h p.number.value p.bytes.now c.len.result c.len.ensures.answer r.room r.staged p.number.known p.some p.fits ∙ ap Some (sym (committed_index h p.number.value p.bytes.now c.len.result c.len.ensures.answer r.room r.staged _ refl refl))
+
+pub returns-clause-after : goal.returns-clause-after
+returns-clause-after c = committed_index c.args.self.now c.args.piece.number.value c.args.piece.bytes.now c.len.result c.len.ensures.answer c.requires.room c.requires.staged _ refl refl
