@@ -5,5 +5,4 @@ pub mod Timed
 pub mod Shipped
 pub mod TransportLaws
 pub mod Timings
-pub mod ParcelsLemmas
 pub mod Boxes

@@ -1,7 +1,9 @@
 // Why a message is not taken.
 ghost use Rattle.std.specs.Prelude.{◌≡◌, Some};
 ghost use Rattle.transport.specs.Refusals.{cause};
+ghost use Rattle.transport.specs.declared.refusal.Refusal.TheVariants.{Length};
 
+use arrayvec::CapacityError;
 use std::fmt;
 
 // The length is looked at first.
@@ -30,7 +32,17 @@ impl fmt::Display for Refusal {
     ghost output = { λ r. Some (cause r) };
 
     fn fmt<W: fmt::Write>(&self, f: &mut fmt::Formatter<W>) -> fmt::Result {
-        let cause = self.cause();
-        write!(f, "{cause}")
+        f.write_str(self.cause())
+    }
+}
+
+impl std::error::Error for Refusal {}
+
+// What does not fit a place of the most bytes is too long for any transport.
+impl From<CapacityError> for Refusal {
+    ghost from_gives = { λ _ r. r ≡ Length };
+
+    fn from(_error: CapacityError) -> Self {
+        Self::Length
     }
 }

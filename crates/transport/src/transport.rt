@@ -1,6 +1,6 @@
 // What every transport promises.
-ghost use Rattle.std.specs.Prelude.{◌≡◌, ℕ, Bool, List, [], length, take};
-ghost use Rattle.transport.specs.Parcels.{Parcel, parcel, Kept, Posted, Lawful, sized, measured};
+ghost use Rattle.std.specs.Prelude.{◌≡◌, ℕ, Bool, List, [], length};
+ghost use Rattle.transport.specs.Parcels.{Parcel, parcel, Kept, Posted, Lawful, measured, BeginsWith};
 ghost use Rattle.transport.specs.Refusals.{post_answer, taken};
 
 use crate::refusal::Refusal;
@@ -27,7 +27,7 @@ pub trait Transport {
     // Puts the message that is next for an addressee at the front of the place and answers its length, or none. The rest of the place is free.
     fn take(&mut self, to: usize, reading: u64, place: &mut [u8; MOST_BYTES]) -> Option<usize>
         ensures answer { result ≡ measured (next self.old to reading) }
-        ensures place { take (length (next self.old to reading)) place.new ≡ next self.old to reading }
+        ensures place { BeginsWith place.new (next self.old to reading) }
         ensures lost { Kept (held self.old) (held self.new) }
         ensures kept { longest self.new ≡ longest self.old };
 
@@ -37,11 +37,4 @@ pub trait Transport {
         ensures kept { longest self.new ≡ longest self.old };
 
     ghost lawful: { (t : Self) → Lawful (held t) (longest t) (next t) };
-}
-
-// Whether a message of so many bytes has one, and not more than `most`.
-pub(crate) fn is_sized(most: usize, len: usize) -> bool
-    ensures answer { result ≡ sized most len }
-{
-    1 <= len && len <= most
 }

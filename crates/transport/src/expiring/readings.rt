@@ -1,25 +1,31 @@
 // Putting a reading in front of a message, and taking it off.
-ghost use Rattle.std.specs.Prelude.{◌≡◌, ◌+◌, ◌≤◌, not, ◌++◌, length, take, nat_le};
-ghost use Rattle.transport.specs.Parcels.{measured};
+ghost use Rattle.std.specs.Prelude.{◌≡◌, ◌+◌, ◌≤◌, ◌++◌, length, take, if◌then◌else◌, Ok, Err, not, nat_le};
+ghost use Rattle.transport.specs.Parcels.{measured, BeginsWith, sized};
 ghost use Rattle.transport.specs.Timed.{eight, fresh};
 
+use crate::refusal::Refusal;
 use crate::transport::MOST_BYTES;
+use arrayvec::ArrayVec;
 
 // The bytes of a reading.
-pub(super) const FRONT: usize = 8;
+const FRONT: usize = 8;
 
-// Writes a message with its reading in front to the front of `whole`.
-pub(super) fn put_in_front(reading: u64, bytes: &[u8], whole: &mut [u8; MOST_BYTES])
-    requires few { length bytes.now ≤ 3192 }
-    ensures after { take (8 + length bytes.now) whole.new ≡ eight reading ++ bytes.now }
+// A message with its reading in front, unless it has no byte or leaves no room for the reading.
+pub(super) fn timed(reading: u64, bytes: &[u8]) -> Result<ArrayVec<u8, MOST_BYTES>, Refusal>
+    ensures answer { result ≡ (if sized 3192 (length bytes.now)
+        then Ok (record { items = eight reading ++ bytes.now }) else Err Refusal.Length) }
 {
-    let end = FRONT + bytes.len();
-    let front = reading.to_le_bytes();
-    whole[0..FRONT].copy_from_slice(&front);
-    whole[FRONT..end].copy_from_slice(bytes);
+    if bytes.is_empty() {
+        return Err(Refusal::Length);
+    }
+    let mut whole = ArrayVec::new();
+    whole.try_extend_from_slice(&reading.to_le_bytes())?;
+    whole.try_extend_from_slice(bytes)?;
+    Ok(whole)
 }
 
 // Takes the reading off a message of `len` bytes, unless there is nothing behind it or it is out of date.
+#[tactic(auto, using(crate::proofs::Takes::moved_to_front))]
 pub(super) fn take_off(
     grace: u32,
     reading: u64,
@@ -28,15 +34,11 @@ pub(super) fn take_off(
 ) -> Option<usize>
     requires few { len ≤ 3200 }
     ensures answer { result ≡ measured (fresh grace reading (take len place.old)) }
-    ensures place { take (length (fresh grace reading (take len place.old))) place.new ≡ fresh grace reading (take len place.old) }
+    ensures place { BeginsWith place.new (fresh grace reading (take len place.old)) }
 {
-    if len <= FRONT {
-        return None;
-    }
-    let posted = u64::from_le_bytes([
-        place[0], place[1], place[2], place[3], place[4], place[5], place[6], place[7],
-    ]);
-    if is_late(grace, posted, reading) {
+    let (front, message) = place[..len].split_first_chunk()?;
+    let posted = u64::from_le_bytes(*front);
+    if message.is_empty() || is_late(grace, posted, reading) {
         return None;
     }
     place.copy_within(FRONT..len, 0);

@@ -1,14 +1,13 @@
 // A mailbox as a transport: open while a place is free, and each addressee gets his oldest message.
-ghost use Rattle.std.specs.Prelude.{◌≡◌, ◌++◌, length, take};
-ghost use Rattle.transport.specs.Parcels.{parcel, Kept, Posted, measured, oldest, without};
+ghost use Rattle.std.specs.Prelude.{◌≡◌, ◌++◌, length};
+ghost use Rattle.transport.specs.Parcels.{parcel, Kept, Posted, measured, BeginsWith, oldest, without};
 ghost use Rattle.transport.specs.Refusals.{post_answer, taken};
 ghost use Rattle.transport.specs.Mailboxes.{parcels, most, free};
 ghost use Rattle.transport.specs.Boxes.{mailbox_lawful};
 
-use super::Mailbox;
-use super::places::filled;
+use super::{Mailbox, Parcel};
 use crate::refusal::Refusal;
-use crate::transport::{MOST_BYTES, Transport, is_sized};
+use crate::transport::{MOST_BYTES, Transport};
 
 impl Transport for Mailbox {
     ghost held = { parcels };
@@ -22,39 +21,33 @@ impl Transport for Mailbox {
     ghost lawful = { λ m. mailbox_lawful m };
 
     // Loses no message.
+    #[tactic(auto, using(crate::proofs::Posts::posted_all, crate::proofs::Posts::posted_none))]
     fn post(&mut self, to: usize, _reading: u64, bytes: &[u8]) -> Result<(), Refusal>
         ensures answer { result ≡ post_answer (free self.old) (most self.old) (length bytes.now) }
         ensures lost { Posted (parcels self.old) (taken result (parcel to bytes.now)) (parcels self.new) }
-        ensures kept { most self.new ≡ most self.old }
         ensures exact { parcels self.new ≡ parcels self.old ++ taken result (parcel to bytes.now) }
     {
-        if !is_sized(MOST_BYTES, bytes.len()) {
-            return Err(Refusal::Length);
-        }
+        let parcel = Parcel::new(to, bytes)?;
         if self.is_full() {
             return Err(Refusal::Closed);
         }
-        let place = filled(to, bytes);
-        self.places.push_reserved(place);
+        self.places.push_reserved(parcel);
         Ok(())
     }
 
     // Frees the place of the message that it gives, and loses no other.
+    #[tactic(auto, using(crate::proofs::Takes::oldest_leaves))]
     fn take(&mut self, to: usize, _reading: u64, place: &mut [u8; MOST_BYTES]) -> Option<usize>
         ensures answer { result ≡ measured (oldest to (parcels self.old)) }
-        ensures place { take (length (oldest to (parcels self.old))) place.new ≡ oldest to (parcels self.old) }
+        ensures place { BeginsWith place.new (oldest to (parcels self.old)) }
         ensures lost { Kept (parcels self.old) (parcels self.new) }
-        ensures kept { most self.new ≡ most self.old }
         ensures exact { parcels self.new ≡ without to (parcels self.old) }
     {
-        let at = self.index_of(to);
-        if at >= self.places.len() {
-            return None;
-        }
-        let found = self.places.remove(at);
-        let bytes = found.bytes;
-        *place = bytes;
-        Some(found.len)
+        let at = self.position_of(to)?;
+        let Parcel { bytes, .. } = self.places.remove(at);
+        let len = bytes.len();
+        place[..len].copy_from_slice(&bytes);
+        Some(len)
     }
 
     fn empty(&mut self) {

@@ -1,10 +1,11 @@
-// Making a mailbox, and its places.
-ghost use Rattle.std.specs.Prelude.{◌≡◌, ℕ, ◌<◌, ◌≤◌, [], length, IfOk, vec_len, ◌≢◌, nat_le, slice_index_or};
-ghost use Rattle.transport.specs.Parcels.{parcel};
-ghost use Rattle.transport.specs.Mailboxes.{parcels, parcel_at};
+// Making a mailbox, and what lies in its places.
+ghost use Rattle.std.specs.Prelude.{◌≡◌, [], length, if◌then◌else◌, IfOk, Ok, Err, vec_len, nat_le, position};
+ghost use Rattle.transport.specs.Parcels.{is_for, parcel, sized};
+ghost use Rattle.transport.specs.Mailboxes.{parcels};
 
-use super::{Mailbox, PLACES, Place};
-use crate::transport::MOST_BYTES;
+use super::{Mailbox, PLACES, Parcel};
+use crate::refusal::Refusal;
+use arrayvec::ArrayVec;
 use std::alloc::{AllocError, Global};
 
 impl Mailbox {
@@ -23,33 +24,24 @@ impl Mailbox {
         self.places.len() >= PLACES
     }
 
-    // Where the oldest message for an addressee lies, or how many messages there are.
-    pub(super) fn index_of(&self, to: usize) -> usize
-        ensures within { result ≤ vec_len self.now.places }
-        ensures before { (k : ℕ) (d : Place) → k < result → (slice_index_or self.now.places.items k d).to ≢ to }
-        ensures found { result < vec_len self.now.places → (d : Place) → (slice_index_or self.now.places.items result d).to ≡ to }
+    // Where the oldest message for an addressee lies, if there is one.
+    pub(super) fn position_of(&self, to: usize) -> Option<usize>
+        ensures answer { result ≡ position (is_for to) (parcels self.now) }
     {
-        for (i, place) in self.places.iter().enumerate() {
-            if place.to == to {
-                return i;
-            }
-        }
-        self.places.len()
+        self.places.iter().position(|parcel| parcel.to == to)
     }
 }
 
-// A place with a message in it.
-pub(super) fn filled(to: usize, bytes: &[u8]) -> Place
-    requires some { 1 ≤ length bytes.now }
-    requires few { length bytes.now ≤ 3200 }
-    ensures answer { parcel_at result ≡ parcel to bytes.now }
-{
-    let len = bytes.len();
-    let mut all = [0u8; MOST_BYTES];
-    all[0..len].copy_from_slice(bytes);
-    Place {
-        to,
-        len,
-        bytes: all,
+impl Parcel {
+    // A message for an addressee, unless it has no byte or too many for a place.
+    pub(super) fn new(to: usize, bytes: &[u8]) -> Result<Parcel, Refusal>
+        ensures answer { result ≡ (if sized 3200 (length bytes.now)
+            then Ok (parcel to bytes.now) else Err Refusal.Length) }
+    {
+        if bytes.is_empty() {
+            return Err(Refusal::Length);
+        }
+        let bytes = ArrayVec::try_from(bytes)?;
+        Ok(Parcel { to, bytes })
     }
 }
