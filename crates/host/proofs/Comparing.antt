@@ -1,8 +1,10 @@
 -- Timestamps of one length compare as they do once they are filled up with zeros.
-use Rattle.std.proofs.Common.{◌≡◌, ℕ, ◌+◌, ◌-◌, ◌*◌, Bool, true, false, cond, ◌&&◌, leb, List, [], ◌∷◌, ◌++◌, length, replicate, sym, refl, ap, ◌∙◌, arith}
-use mir.Val.{bool_byte}
+use Rattle.std.proofs.Common.{◌≡◌, ℕ, ◌-◌, ◌&&◌, leb, List, [], ◌∷◌, ◌++◌, length, replicate, sym, refl, ap, ◌∙◌, length-append, arith}
+use Rattle.std.proofs.lemmas.Bool.{eq-eqb}
+use Rattle.std.proofs.lemmas.List.{length-replicate}
 use Rattle.gossip.specs.Timestamps.{under, padded}
-use Rattle.gossip.proofs.TimestampLaws.{under_refl}
+use Rattle.gossip.specs.Comparing.{compared, ordered}
+use Rattle.gossip.specs.UnderLemmas.{under_refl}
 use Rattle.gossip.proofs.Bools.{and_assoc, and_true}
 
 -- two parts each, compared one behind the other
@@ -19,9 +21,8 @@ under-padded s t l =
     ∙ ap (λ b. under s t && b) (under_refl (replicate (7 - length s) 0))
     ∙ and_true (under s t)
 
--- the pair of answers as one number
-pub one_number : (a b : Bool) → bool_byte a + 2 * bool_byte b ≡ cond a 1 0 + cond b 2 0
-one_number true true = refl
-one_number true false = refl
-one_number false true = refl
-one_number false false = refl
+-- and so have the same order
+pub compared-padded : (s t : List ℕ) → length s ≡ length t → compared (record { parts = padded s }) (record { parts = padded t }) ≡ ordered (under s t) (under t s)
+compared-padded s t l =
+    let k : length (padded s) ≡ length (padded t) = simp (length-append, length-replicate) (omega arith) in
+    rw (eq-eqb _ _ k, under-padded s t l, under-padded t s (sym l))

@@ -15,7 +15,7 @@ use Rattle.gossip.specs.declared.entry.State.TheVariants.{Value}
 abbrev pub front : {X : Type 0} → List X → List X → List X
 front xs old = xs ++ drop (length xs) old
 
-abbrev pub after : (Message → List ℕ) → Result Message ℕ → List ℕ → List ℕ
+abbrev pub after : {E : Type 0} → (Message → List ℕ) → Result Message E → List ℕ → List ℕ
 after said (Ok m) old = front (said m) old
 after said (Err e) old = old
 

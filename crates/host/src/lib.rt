@@ -1,9 +1,9 @@
-// Calls for a host in C, on plain numbers and areas of memory: comparing timestamps, and reading messages.
-// Nothing is kept from call to call and nothing is allocated. The crate host_c gives the calls their names in C, and host/seats.h declares them.
+// What a host in C may ask: comparing timestamps, and reading messages into areas of memory.
+// Nothing is kept from call to call and nothing is allocated. The crate host_c gives the calls their names in C and their answers as numbers.
 #![tactic(auto)]
 
-mod outcome;
 mod reading;
+mod refusal;
 
-pub use outcome::HostRefusal;
-pub use reading::{seats_compare, seats_read_entry, seats_read_head};
+pub use reading::{compare, read_entry, read_head};
+pub use refusal::HostRefusal;

@@ -1,11 +1,12 @@
 // What keeps a call from doing anything.
 ghost use Rattle.std.specs.Prelude.{◌≡◌};
 ghost use Rattle.host.specs.Outcomes.{number};
+ghost use Rattle.host.specs.declared.refusal.HostRefusal.TheVariants.{Kind, Refused};
 
-use gossip::Refusal;
+use gossip::{Refusal, UnknownKind};
 
 // A refusal of the calls for a host, each with a number of its own.
-#[derive(Clone, Copy)]
+#[derive(Clone, Copy, PartialEq, Eq, Debug)]
 pub enum HostRefusal {
     // The timestamps or the message are refused: 8, or 20 to 26.
     Refused(Refusal),
@@ -28,5 +29,21 @@ impl HostRefusal {
             HostRefusal::Index => 61,
             HostRefusal::Kind => 62,
         }
+    }
+}
+
+impl From<Refusal> for HostRefusal {
+    ghost from_gives = { λ refusal given. given ≡ Refused refusal };
+
+    fn from(refusal: Refusal) -> HostRefusal {
+        HostRefusal::Refused(refusal)
+    }
+}
+
+impl From<UnknownKind> for HostRefusal {
+    ghost from_gives = { λ _ given. given ≡ Kind };
+
+    fn from(_: UnknownKind) -> HostRefusal {
+        HostRefusal::Kind
     }
 }
