@@ -1,6 +1,5 @@
-pub mod Spelled
-pub mod Cases
 pub mod Kept
 pub mod Ends
 pub mod Printed
 pub mod Nameless
+pub mod Spelled

@@ -4,12 +4,14 @@ use Rattle.std.proofs.lemmas.Bool.{ne_eqb}
 use Rattle.gossip.specs.Format.{decode, decode_head}
 use Rattle.gossip.specs.Lattices.{Kind}
 use Rattle.gossip.specs.Refusals.{unless, and_then}
+use Rattle.gossip.specs.declared.refusal.Refusal.{Refusal}
+use Rattle.gossip.specs.declared.refusal.Refusal.TheVariants.{Short, Form, Origin}
 use Rattle.inspect.specs.Kinds.{nameless}
 
 -- a chain of tests whose third fails
-third : {X Y : Type 0} (f : X → Result Y ℕ) (rest : Result X ℕ) (a b c d : Bool) → c ≡ false
-    → and_then (unless a 20 (unless b 21 (unless (c && d) 22 rest))) f ≡ unless a 20 (unless b 21 (Err 22))
-third f rest true true c d e = ap (λ t. and_then (cond (t && d) rest (Err 22)) f) e
+third : {X Y : Type 0} (f : X → Result Y Refusal) (rest : Result X Refusal) (a b c d : Bool) → c ≡ false
+    → and_then (unless a Short (unless b Form (unless (c && d) Origin rest))) f ≡ unless a Short (unless b Form (Err Origin))
+third f rest true true c d e = ap (λ t. and_then (cond (t && d) rest (Err Origin)) f) e
 third f rest true false c d e = refl
 third f rest false b c d e = refl
 

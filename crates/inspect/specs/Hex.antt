@@ -1,27 +1,12 @@
 -- Hexadecimal digits, and the bytes that they spell.
 --
--- digit c     the value of a digit of either case, by its code
--- is_digit c  it is one
--- pairs cs    the bytes that digits spell, two to a byte
-use Rattle.std.specs.Prelude.{ℕ, ◌+◌, ◌-◌, ◌*◌, Bool, cond, ◌&&◌, List, [], ◌∷◌, is_some, Some, None, Option, nat_le}
-use Rattle.std.specs.Option.{unwrap_or}
-
-abbrev pub between : ℕ → ℕ → ℕ → Bool
-between low high c = nat_le low c && nat_le c high
-
--- '0' to '9' are the codes 48 to 57, 'a' to 'f' 97 to 102, 'A' to 'F' 65 to 70
-abbrev pub digit : ℕ → Option ℕ
-digit c =
-    cond (between 48 57 c) (Some (c - 48))
-    (cond (between 97 102 c) (Some (c - 97 + 10))
-    (cond (between 65 70 c) (Some (c - 65 + 10))
-    None))
-
-abbrev pub is_digit : ℕ → Bool
-is_digit c = is_some (digit c)
+-- byte high low  the byte of two digits
+-- pairs cs       the bytes that digits spell, two to a byte
+use Rattle.std.specs.Prelude.{ℕ, ◌+◌, ◌*◌, List, [], ◌∷◌}
+use Rattle.std.specs.Char.{digit_value}
 
 abbrev pub byte : ℕ → ℕ → ℕ
-byte high low = 16 * unwrap_or (digit high) 0 + unwrap_or (digit low) 0
+byte high low = 16 * digit_value high + digit_value low
 
 abbrev pub pairs : List ℕ → List ℕ
 pairs [] = []

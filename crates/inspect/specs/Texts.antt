@@ -27,20 +27,14 @@ entry_text n e = codes "seat " ++ (decimal e.seat ++ state_text n e.state)
 abbrev pub entries_text : ℕ → List Entry → List ℕ
 entries_text n es = joined (λ e. codes "\n" ++ entry_text n e) es
 
-abbrev pub start_text : ℕ → Head → List ℕ → List ℕ
-start_text k h parts =
+abbrev pub head_text : ℕ → Head → List ℕ
+head_text k h =
     codes "gossip kind " ++ (decimal k
     ++ (codes " n " ++ (decimal h.n
     ++ (codes " sender " ++ (decimal h.sender
     ++ (codes " group " ++ (decimal h.group
     ++ (codes " clock " ++ (decimal h.clock
-    ++ (codes " timestamp " ++ spaced parts))))))))))
-
-abbrev pub head_text : ℕ → Head → List ℕ
-head_text k h = start_text k h (take h.n h.timestamp.parts)
-
-abbrev pub whole_text : ℕ → Head → List Entry → List ℕ
-whole_text k h es = head_text k h ++ (codes " entries " ++ (decimal (length es) ++ entries_text h.n es))
+    ++ (codes " timestamp " ++ spaced (take h.n h.timestamp.parts)))))))))))
 
 abbrev pub message_text : ℕ → Message → List ℕ
-message_text k m = whole_text k m.head m.entries
+message_text k m = head_text k m.head ++ (codes " entries " ++ (decimal (length m.entries) ++ entries_text m.head.n m.entries))

@@ -1,11 +1,12 @@
 // Lines of input, read in blocks. Of a long line no more is kept than decides what it is.
-ghost use Rattle.std.specs.Prelude.{◌≡◌, ◌≤◌, ◌++◌, length, take, IfOk, IfErr};
+ghost use Rattle.std.specs.Prelude.{◌≡◌, ◌++◌, ◌<◌, ◌==◌, [], length, take, IfOk, IfErr, IfSome};
 ghost use Rattle.std.specs.Io.Buffered.{reader_inner};
 ghost use Rattle.std.specs.IoError.{error_kind};
+ghost use Rattle.std.specs.List.{position};
 ghost use Rattle.std.specs.declared.io.ErrorKind.TheVariants.{OutOfMemory};
-ghost use Rattle.inspect.specs.Lines.{line_end_at};
 
 use crate::line::KEPT;
+use arrayvec::ArrayVec;
 use std::alloc::Global;
 use std::io;
 use std::io::{BufRead, BufReader, Read};
@@ -16,9 +17,7 @@ const LINE_END: u8 = b'\n';
 #[derive(Drop)]
 pub struct Lines<R> {
     reader: BufReader<R>,
-    kept: [u8; KEPT],
-    len: usize,
-    ghost within: { len ≤ 6642 },
+    kept: ArrayVec<u8, KEPT>,
 }
 
 impl<R: Read> Lines<R> {
@@ -31,62 +30,56 @@ impl<R: Read> Lines<R> {
     {
         Ok(Lines {
             reader: BufReader::new(alloc, input)?,
-            kept: [0; KEPT],
-            len: 0,
+            kept: ArrayVec::new(),
         })
     }
 
     // The next line without its line end, cut to what is kept of it; or none at the end of the input.
     pub(crate) fn next(&mut self) -> io::Result<Option<&[u8]>> {
-        if !self.fill()? {
+        self.kept.clear();
+        if self.reader.fill_buf()?.is_empty() {
             return Ok(None);
         }
-        let line = &*self;
-        Ok(Some(&line.kept[0..line.len]))
+        self.read_line()?;
+        Ok(Some(self.kept.as_slice()))
     }
 
-    // Reads a line as far as its line end, or the end of the input, and answers whether there was one.
-    fn fill(&mut self) -> io::Result<bool> {
-        self.len = 0;
-        let mut is_line = false;
+    // Reads on as far as the next line end, or the end of the input.
+    fn read_line(&mut self) -> io::Result<()> {
         for _ in 0..u64::MAX {
             let block = self.reader.fill_buf()?;
             if block.is_empty() {
                 break;
             }
-            is_line = true;
-            let end = line_end(block);
-            let is_whole = end < block.len();
-            self.len = append(&mut self.kept, self.len, &block[0..end]);
-            self.reader.consume(if is_whole { end + 1 } else { end });
-            if is_whole {
-                break;
+            match line_end(block) {
+                Some(end) => {
+                    append(&mut self.kept, &block[..end]);
+                    self.reader.consume(end + 1);
+                    break;
+                }
+                None => {
+                    let len = block.len();
+                    append(&mut self.kept, block);
+                    self.reader.consume(len);
+                }
             }
         }
-        Ok(is_line)
+        Ok(())
     }
 }
 
-// Where the first line of the bytes ends.
-fn line_end(bytes: &[u8]) -> usize
-    ensures answer { result ≡ line_end_at bytes.now }
-    ensures within { result ≤ length bytes.now }
+// Where the first line end stands among the bytes, if there is one.
+fn line_end(bytes: &[u8]) -> Option<usize>
+    ensures answer { result ≡ position (λ b. b == 10) bytes.now }
+    ensures within { IfSome result (λ end. end < length bytes.now) }
 {
-    for (i, b) in bytes.iter().enumerate() {
-        if *b == LINE_END {
-            return i;
-        }
-    }
-    bytes.len()
+    bytes.iter().position(|b| *b == LINE_END)
 }
 
-// Writes bytes behind the first `len` as far as there is room, and answers the new length.
-fn append(kept: &mut [u8; KEPT], len: usize, bytes: &[u8]) -> usize
-    requires { len ≤ 6642 }
-    ensures within { result ≤ 6642 }
-    ensures front { take result kept.new ≡ take 6642 (take len kept.old ++ bytes.now) }
+// Puts bytes behind those that are kept, as far as there is room.
+fn append(kept: &mut ArrayVec<u8, KEPT>, bytes: &[u8])
+    ensures { kept.new.items ≡ take 6642 (kept.old.items ++ bytes.now) }
 {
-    let more = bytes.len().min(KEPT - len);
-    kept[len..len + more].copy_from_slice(&bytes[0..more]);
-    len + more
+    let more = bytes.len().min(kept.remaining_capacity());
+    kept.try_extend_from_slice(&bytes[..more]).unwrap();
 }

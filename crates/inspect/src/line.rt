@@ -1,24 +1,27 @@
 // A line of input: what it is, and the bytes that its hexadecimal digits spell.
-ghost use Rattle.std.specs.Prelude.{◌≡◌, ◌*◌, ◌≤◌, true, length, IfOk, Some};
-ghost use Rattle.gossip.specs.Numbers.{every, put_at};
-ghost use Rattle.inspect.specs.Hex.{digit, is_digit, pairs};
-ghost use Rattle.inspect.specs.Lines.{trimmed, spelled, counted, found, line_of, bytes_of, Roomy, Decisive, cause};
+ghost use Rattle.std.specs.Prelude.{◌≡◌, ◌<◌, ◌≤◌, true, length, Some};
+ghost use Rattle.std.specs.Char.{digit_value, is_ascii_hexdigit};
+ghost use Rattle.std.specs.List.{list_all};
+ghost use Rattle.inspect.specs.Hex.{pairs};
+ghost use Rattle.inspect.specs.Lines.{trimmed, spelled, line_of, Decisive, cause};
 
+use arrayvec::ArrayVec;
 use gossip::ROOM;
 use std::fmt;
 
-// What a line is that can be read. The bytes of a message stand at the front of the caller's buffer.
-#[derive(Clone, Copy, PartialEq, Eq, Debug)]
+// What a line is that can be read.
+#[derive(Drop)]
 pub enum Line {
     Blank,
     Note,
-    Message { len: usize },
+    // The bytes of a message.
+    Message(ArrayVec<u8, ROOM>),
 }
 
 // What is wrong with a line that cannot be read.
 #[derive(Clone, Copy, PartialEq, Eq, Debug)]
 pub enum Fault {
-    // It has more digits than the buffer has room for.
+    // It has more digits than there is room for.
     Long,
     // One of its characters is no hexadecimal digit.
     NotHex,
@@ -48,7 +51,7 @@ impl fmt::Display for Fault {
     }
 }
 
-// The most digits of a message: two for each byte of the buffer.
+// The most digits of a message: two for each of its bytes.
 const MOST_DIGITS: usize = 6_640;
 
 // What of a long line is enough to read it as the whole: one more than the most digits, and a carriage return.
@@ -61,22 +64,15 @@ const RETURN: u8 = b'\r';
 
 impl Line {
     // What a line without its line end is, also where no more than `KEPT` bytes of it are left.
-    // The bytes of a message are written to the front of the buffer; the rest of it stays, and all of it at any other line.
-    pub fn read(text: &[u8], buffer: &mut [u8; ROOM]) -> Result<Line, Fault>
+    #[tactic(auto, using(crate::proofs::Kept::decisive))]
+    pub fn read(text: &[u8]) -> Result<Line, Fault>
         ensures answer { result ≡ line_of text.now }
-        ensures buffer { buffer.new ≡ put_at 0 (bytes_of text.now) buffer.old }
-        ensures room { IfOk result Roomy }
         ensures cut { Decisive text.now }
     {
-        let text = without_return(text);
-        match text {
+        match without_return(text) {
             [] => Ok(Line::Blank),
-            [first, ..] => match *first {
-                NOTE => Ok(Line::Note),
-                _ => Ok(Line::Message {
-                    len: read_hex(text, buffer)?,
-                }),
-            },
+            [NOTE, ..] => Ok(Line::Note),
+            digits => Ok(Line::Message(read_hex(digits)?)),
         }
     }
 }
@@ -86,16 +82,14 @@ fn without_return(text: &[u8]) -> &[u8]
     ensures { result.now ≡ trimmed text.now }
 {
     match text {
-        [] => text,
-        [front @ .., last] => if *last == RETURN { front } else { text },
+        [front @ .., RETURN] => front,
+        _ => text,
     }
 }
 
-// Writes the bytes that digits spell to the front of the buffer, and answers how many; or says what is wrong first, and writes nothing then.
-fn read_hex(digits: &[u8], buffer: &mut [u8; ROOM]) -> Result<usize, Fault>
-    ensures answer { result ≡ counted (spelled digits.now) }
-    ensures buffer { buffer.new ≡ put_at 0 (found (spelled digits.now)) buffer.old }
-    ensures room { IfOk result (λ len. len ≤ 3320) }
+// The bytes that digits spell, or what is wrong with them first.
+fn read_hex(digits: &[u8]) -> Result<ArrayVec<u8, ROOM>, Fault>
+    ensures { result ≡ spelled digits.now }
 {
     if digits.len() > MOST_DIGITS {
         return Err(Fault::Long);
@@ -106,43 +100,34 @@ fn read_hex(digits: &[u8], buffer: &mut [u8; ROOM]) -> Result<usize, Fault>
     if digits.len() % 2 != 0 {
         return Err(Fault::Odd);
     }
-    write_bytes(digits, buffer);
-    Ok(digits.len() / 2)
+    Ok(bytes_of(digits))
 }
 
-// Whether each character is a hexadecimal digit.
+// Whether each character is a hexadecimal digit, of either case.
 fn are_digits(text: &[u8]) -> bool
-    ensures { result ≡ every is_digit text.now }
+    ensures { result ≡ list_all is_ascii_hexdigit text.now }
 {
-    for c in text {
-        if value(*c).is_none() {
-            return false;
-        }
-    }
-    true
+    text.iter().all(|c| c.is_ascii_hexdigit())
 }
 
-// The value of a hexadecimal digit of either case.
-fn value(c: u8) -> Option<u8>
-    ensures { result ≡ digit c }
+// The bytes that pairs of digits spell.
+fn bytes_of(digits: &[u8]) -> ArrayVec<u8, ROOM>
+    requires digits { list_all is_ascii_hexdigit digits.now ≡ true }
+    requires room { length digits.now ≤ 6640 }
+    ensures { result.items ≡ pairs digits.now }
 {
-    match c {
-        b'0'..=b'9' => Some(c - b'0'),
-        b'a'..=b'f' => Some(c - b'a' + 10),
-        b'A'..=b'F' => Some(c - b'A' + 10),
-        _ => None,
+    let mut bytes = ArrayVec::new();
+    for pair in digits.chunks_exact(2) {
+        bytes.push(16 * value(pair[0]) + value(pair[1]));
     }
+    bytes
 }
 
-// Writes the bytes that pairs of digits spell to the front of the buffer.
-fn write_bytes(digits: &[u8], buffer: &mut [u8])
-    requires digits { every is_digit digits.now ≡ true }
-    requires room { length digits.now ≤ 2 * length buffer.old }
-    ensures { buffer.new ≡ put_at 0 (pairs digits.now) buffer.old }
+// The value of a digit.
+fn value(digit: u8) -> u8
+    requires { is_ascii_hexdigit digit ≡ true }
+    ensures value { result ≡ digit_value digit }
+    ensures small { result < 16 }
 {
-    for i in 0..digits.len() / 2 {
-        let high = value(digits[2 * i]).unwrap();
-        let low = value(digits[2 * i + 1]).unwrap();
-        buffer[i] = 16 * high + low;
-    }
+    char::from(digit).to_digit(16).unwrap() as u8
 }

@@ -1,20 +1,20 @@
 // A message as text.
 ghost use Rattle.std.specs.Prelude.{Some};
-ghost use Rattle.gossip.specs.Contents.{contents};
+ghost use Rattle.gossip.specs.Kinds.{lattice_of};
 ghost use Rattle.inspect.specs.Texts.{spaced, head_text, entry_text, entries_text, message_text};
 
-use gossip::{Entry, Gossip, Head, State};
+use gossip::{Entry, Gossip, Head, Kind, State};
 use std::fmt;
 
-// A message of the kind with this number: a line on its head, and a line on each of its entries.
+// A message of a kind: a line on its head, and a line on each of its entries.
 #[derive(Drop)]
 pub struct Shown<'a> {
-    pub kind: u8,
+    pub kind: Kind,
     pub gossip: &'a Gossip,
 }
 
 impl fmt::Display for Shown<'_> {
-    ghost output = { λ x. Some (message_text x.kind (contents x.gossip.now)) };
+    ghost output = { λ x. Some (message_text (lattice_of x.kind).number x.gossip.now) };
 
     fn fmt<W: fmt::Write>(&self, f: &mut fmt::Formatter<W>) -> fmt::Result {
         let head = self.gossip.head();
@@ -29,23 +29,26 @@ impl fmt::Display for Shown<'_> {
     }
 }
 
-// The head of a message, of the kind with this number.
+// The head of a message of a kind.
 #[derive(Drop)]
 struct Start<'a> {
-    kind: u8,
+    kind: Kind,
     head: &'a Head,
 }
 
 impl fmt::Display for Start<'_> {
-    ghost output = { λ x. Some (head_text x.kind x.head.now) };
+    ghost output = { λ x. Some (head_text (lattice_of x.kind).number x.head.now) };
 
     fn fmt<W: fmt::Write>(&self, f: &mut fmt::Formatter<W>) -> fmt::Result {
-        let kind = self.kind;
-        let n = self.head.n;
-        let sender = self.head.sender;
-        let group = self.head.group;
-        let clock = self.head.clock;
-        let parts = Parts(self.head.timestamp.prefix(n));
+        let kind = self.kind.number();
+        let Head {
+            n,
+            sender,
+            group,
+            clock,
+            timestamp,
+        } = self.head;
+        let parts = Parts(timestamp.prefix(*n));
         write!(
             f,
             "gossip kind {kind} n {n} sender {sender} group {group} clock {clock} timestamp {parts}"
@@ -84,8 +87,8 @@ impl fmt::Display for EntryLine<'_> {
     ghost output = { λ x. Some (entry_text x.n x.entry.now) };
 
     fn fmt<W: fmt::Write>(&self, f: &mut fmt::Formatter<W>) -> fmt::Result {
-        let seat = self.entry.seat;
-        match &self.entry.state {
+        let Entry { seat, state } = self.entry;
+        match state {
             State::Value(value) => write!(f, "seat {seat} value {value}"),
             State::Tombstone { time, timestamp } => {
                 let parts = Parts(timestamp.prefix(self.n));

@@ -1,7 +1,6 @@
-use Rattle.std.proofs.Common.{◌++◌, codes, ap, take_all}
-use Rattle.std.proofs.Output.{has_written_of_eq}
+use Rattle.std.proofs.Common.{◌++◌, codes}
 use Rattle.gossip.specs.declared.entry.State.TheVariants.{Value}
-use Rattle.inspect.specs.Texts.{entry_text, entries_text}
+use Rattle.inspect.specs.Texts.{entry_text}
 use Rattle.inspect.proofs.Printed.{prints_none, prints_more}
 use Rattle.inspect.proofs.show.EntriesDisplay.fmt.Goals as goal
 
@@ -13,9 +12,3 @@ loop-entry-preserved g c =
     prints_more g.W.Write.write_str_gives (λ e. codes "\n" ++ entry_text c.args.self.now.n e) c.args.f.now
     c.args.self.now.list.now c.loop-entry.entry-index (record { seat = 0; state = Value 0 }) c.loop-entry.f _
     c.loop-entry-test.true c.loop-entry.invariant c.in_ok-write.ensures.writes
-
-pub returns-clause-writes : goal.returns-clause-writes
-returns-clause-writes g c plain ok =
-    has_written_of_eq g.W.Write.write_str_gives c.args.f.now _ _ c.loop-entry.f
-    (ap (entries_text c.args.self.now.n) (take_all c.loop-entry.entry-index c.args.self.now.list.now c.loop-entry-test.false))
-    (c.loop-entry.invariant plain)
