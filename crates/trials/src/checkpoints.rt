@@ -125,8 +125,7 @@ fn try_changes(
     checkpoint: &[u8; ROOM],
     cases: &[(usize, usize, u8, Unreadable, u8)],
 ) -> Result<(), Fail> {
-    for case in cases {
-        let (len, place, byte, reason, carried) = *case;
+    for &(len, place, byte, reason, carried) in cases {
         let mut room = *checkpoint;
         assert!(rt; place < ROOM);
         assert!(rt; len <= ROOM);

@@ -1,5 +1,7 @@
 // Messages: built, written and read back; what cannot be written is refused.
-use gossip::{Counts, Entry, Gossip, Head, Ports, ROOM, Refusal, State, Timestamp};
+use gossip::{
+    Counts, Entry, Gossip, Head, Kind, Ports, ROOM, Refusal, State, Timestamp, UnknownKind,
+};
 use std::test::Fail;
 
 // A head of n replicas with this timestamp.
@@ -17,13 +19,6 @@ fn value(seat: u64, value: u64) -> Entry {
     Entry {
         seat,
         state: State::Value(value),
-    }
-}
-
-fn refusal_of<T: Drop>(answer: Result<T, Refusal>) -> Option<Refusal> {
-    match answer {
-        Ok(_) => None,
-        Err(refusal) => Some(refusal),
     }
 }
 
@@ -78,7 +73,7 @@ fn a_message_is_read_back_as_it_was(rt: HostRuntime) -> Result<(), Fail> {
         true
     );
     assert_eq!(rt;
-        refusal_of(Gossip::read::<Ports>(&out[0..len])),
+        Gossip::read::<Ports>(&out[0..len]).err(),
         Some(Refusal::Origin),
         "it is of another kind"
     );
@@ -88,46 +83,43 @@ fn a_message_is_read_back_as_it_was(rt: HostRuntime) -> Result<(), Fail> {
 #[test]
 fn a_head_that_cannot_be_written_is_refused(rt: HostRuntime) -> Result<(), Fail> {
     let zero = Timestamp::zero();
+    assert_eq!(rt; Gossip::new(head(0, zero)).err(), Some(Refusal::Origin));
+    assert_eq!(rt; Gossip::new(head(8, zero)).err(), Some(Refusal::Origin));
     assert_eq!(rt;
-        refusal_of(Gossip::new(head(0, zero))),
-        Some(Refusal::Origin)
-    );
-    assert_eq!(rt;
-        refusal_of(Gossip::new(head(8, zero))),
-        Some(Refusal::Origin)
-    );
-    assert_eq!(rt;
-        refusal_of(Gossip::new(Head {
+        Gossip::new(Head {
             n: 2,
             sender: 2,
             group: 7,
             clock: 0,
             timestamp: zero,
-        })),
+        })
+        .err(),
         Some(Refusal::Origin)
     );
     assert_eq!(rt;
-        refusal_of(Gossip::new(head(2, Timestamp::read(3, &[0, 0, 1])?))),
+        Gossip::new(head(2, Timestamp::read(3, &[0, 0, 1])?)).err(),
         Some(Refusal::Layout)
     );
     assert_eq!(rt;
-        refusal_of(Gossip::new(Head {
+        Gossip::new(Head {
             n: 2,
             sender: 1,
             group: 7,
             clock: 1_099_511_627_775,
             timestamp: zero,
-        })),
+        })
+        .err(),
         None
     );
     assert_eq!(rt;
-        refusal_of(Gossip::new(Head {
+        Gossip::new(Head {
             n: 2,
             sender: 1,
             group: 7,
             clock: 1_099_511_627_776,
             timestamp: zero,
-        })),
+        })
+        .err(),
         Some(Refusal::Clock)
     );
     Ok(())
@@ -176,5 +168,29 @@ fn a_value_of_another_kind_is_not_written(rt: HostRuntime) -> Result<(), Fail> {
     assert_eq!(rt; message.write::<Ports>(&mut out), Err(Refusal::Mark));
     assert_eq!(rt; out[0], 7, "a refusal writes nothing");
     assert_eq!(rt; message.write::<Counts>(&mut out)?, 52);
+    Ok(())
+}
+
+#[test]
+fn a_kind_is_read_by_its_number(rt: HostRuntime) {
+    assert_eq!(rt; Kind::try_from(1), Ok(Kind::Counts));
+    assert_eq!(rt; Kind::try_from(2), Ok(Kind::Ports));
+    assert_eq!(rt; Kind::try_from(0), Err(UnknownKind));
+    assert_eq!(rt; Kind::try_from(3), Err(UnknownKind));
+    assert_eq!(rt; Kind::Ports.number(), 2);
+}
+
+#[test]
+fn a_state_is_a_mark_a_word_and_a_timestamp(rt: HostRuntime) -> Result<(), Fail> {
+    let deleted = Timestamp::read(2, &[4, 4])?;
+    let tombstone = State::Tombstone {
+        time: 25,
+        timestamp: deleted,
+    };
+    assert_eq!(rt; (tombstone.mark(), tombstone.word()), (2, 25));
+    assert_eq!(rt; tombstone.timestamp(), deleted);
+    let value = State::Value(9);
+    assert_eq!(rt; (value.mark(), value.word()), (1, 9));
+    assert_eq!(rt; value.timestamp(), Timestamp::zero());
     Ok(())
 }

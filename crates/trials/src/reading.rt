@@ -5,14 +5,11 @@ use std::test::Fail;
 // The count that a message gives for a seat, 0 if it has none.
 fn count_of(bytes: &[u8], seat: u64) -> Result<u64, Refusal> {
     let message = Gossip::read::<Counts>(bytes)?;
-    for entry in message.entries() {
-        if entry.seat == seat {
-            if let State::Value(count) = entry.state {
-                return Ok(count);
-            }
-        }
+    let entry = message.entries().iter().find(|entry| entry.seat == seat);
+    match entry.map(|entry| entry.state) {
+        Some(State::Value(count)) => Ok(count),
+        _ => Ok(0),
     }
-    Ok(0)
 }
 
 #[test]

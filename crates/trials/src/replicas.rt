@@ -1,7 +1,7 @@
 // Replicas: what each step answers and leaves, as tables of cases at the bounds of each refusal.
 use checkpoint::Checkpoint;
 use gossip::{Counts, Entry, Gossip, Head, Lattice, ROOM, State, Timestamp};
-use replica::{Change, Membership, Receipt, Refusal, Replica};
+use replica::{Change, Membership, Refusal, Replica};
 use std::alloc::Global;
 use std::process::Abort;
 use std::test::Fail;
@@ -40,10 +40,10 @@ pub(crate) fn of_change(answer: Result<Change, Refusal>) -> Answer {
     }
 }
 
-pub(crate) fn of_receipt(answer: Result<Receipt, Refusal>) -> Answer {
+pub(crate) fn of_receipt(answer: Result<Option<Timestamp>, Refusal>) -> Answer {
     match answer {
-        Ok(Receipt::Old) => Answer::Old,
-        Ok(Receipt::New(_)) => Answer::New,
+        Ok(None) => Answer::Old,
+        Ok(Some(_)) => Answer::New,
         Err(refusal) => Answer::Refused(refusal.number()),
     }
 }
@@ -57,14 +57,7 @@ pub(crate) fn of_sweep(answer: Result<usize, Refusal>) -> Answer {
 
 // Whether a step that answers so may have changed something.
 pub(crate) fn has_changed(answer: Answer) -> bool {
-    match answer {
-        Answer::Set => true,
-        Answer::New => true,
-        Answer::Swept(_) => true,
-        Answer::Same => false,
-        Answer::Old => false,
-        Answer::Refused(_) => false,
-    }
+    matches!(answer, Answer::Set | Answer::New | Answer::Swept(_))
 }
 
 // A timestamp of two replicas.
@@ -184,12 +177,8 @@ pub(crate) fn check_stands(
 // What the replica's checkpoint says of a seat.
 pub(crate) fn entry_of(replica: &Replica, seat: u64) -> Option<State> {
     let message = replica.checkpoint().message();
-    for entry in message.entries() {
-        if entry.seat == seat {
-            return Some(entry.state);
-        }
-    }
-    None
+    let entry = message.entries().iter().find(|entry| entry.seat == seat)?;
+    Some(entry.state)
 }
 
 // The replica is what the checkpoint says.

@@ -36,6 +36,10 @@ fn entries_stand_in_the_order_of_their_seats(rt: HostRuntime) -> Result<(), Fail
         Some(State::Value(3))
     );
     assert_eq!(rt; table.find(4), None);
+    let entries = table.entries();
+    assert_eq!(rt; entries.len(), 3);
+    assert_eq!(rt; entries.first().copied(), table.entry(0));
+    assert_eq!(rt; entries.last().copied(), table.entry(2));
     Ok(())
 }
 
@@ -180,8 +184,7 @@ fn try_merges(
     table: &mut Table,
     cases: &[(Option<State>, Option<State>, Option<State>, Option<State>)],
 ) -> Result<(), Fail> {
-    for case in cases {
-        let (held, told, counts, ports) = *case;
+    for &(held, told, counts, ports) in cases {
         assert_eq!(rt; merged::<Counts>(table, held, told)?, counts);
         assert_eq!(rt; merged::<Ports>(table, held, told)?, ports);
     }

@@ -1,21 +1,24 @@
 // Timestamps: compared, merged, bumped, read and written at their bounds.
-use gossip::{Refusal, Timestamp};
+use gossip::{Refusal, Timestamp, is_group_size};
+use std::cmp::Ordering;
 use std::test::Fail;
 
 #[test]
 fn compares_part_by_part(rt: HostRuntime) -> Result<(), Fail> {
     let low = Timestamp::read(3, &[1, 0, 2])?;
     let high = Timestamp::read(3, &[1, 1, 2])?;
-    assert_eq!(rt; low.compare(&high), (true, false));
-    assert_eq!(rt; high.compare(&low), (false, true));
-    assert_eq!(rt; low.compare(&low), (true, true));
+    assert_eq!(rt; low.partial_cmp(&high), Some(Ordering::Less));
+    assert_eq!(rt; high.partial_cmp(&low), Some(Ordering::Greater));
+    assert_eq!(rt; low.partial_cmp(&low), Some(Ordering::Equal));
     let left = Timestamp::read(2, &[1, 0])?;
     let right = Timestamp::read(2, &[0, 1])?;
     assert_eq!(rt;
-        left.compare(&right),
-        (false, false),
+        left.partial_cmp(&right),
+        None,
         "neither is at or under the other"
     );
+    assert_eq!(rt; left.is_under(&right), false);
+    assert_eq!(rt; low.is_under(&low), true);
     Ok(())
 }
 
@@ -23,7 +26,7 @@ fn compares_part_by_part(rt: HostRuntime) -> Result<(), Fail> {
 fn compares_the_last_part_too(rt: HostRuntime) -> Result<(), Fail> {
     let low = Timestamp::read(7, &[9, 9, 9, 9, 9, 9, 8])?;
     let high = Timestamp::read(7, &[9, 9, 9, 9, 9, 9, 9])?;
-    assert_eq!(rt; low.compare(&high), (true, false));
+    assert_eq!(rt; low.partial_cmp(&high), Some(Ordering::Less));
     Ok(())
 }
 
@@ -72,4 +75,22 @@ fn writes_exactly_n_parts(rt: HostRuntime) -> Result<(), Fail> {
     assert_eq!(rt; timestamp.write(3, &mut short), Err(Refusal::Parts));
     assert_eq!(rt; short, [9, 9], "a refusal writes nothing");
     Ok(())
+}
+
+#[test]
+fn is_of_n_replicas_where_the_rest_is_zero(rt: HostRuntime) -> Result<(), Fail> {
+    let timestamp = Timestamp::read(3, &[1, 2, 0])?;
+    assert_eq!(rt; timestamp.is_of(1), false);
+    assert_eq!(rt; timestamp.is_of(2), true);
+    assert_eq!(rt; timestamp.is_of(7), true);
+    assert_eq!(rt; Timestamp::zero().is_of(0), true);
+    Ok(())
+}
+
+#[test]
+fn a_group_has_one_to_seven_replicas(rt: HostRuntime) {
+    assert_eq!(rt; is_group_size(0), false);
+    assert_eq!(rt; is_group_size(1), true);
+    assert_eq!(rt; is_group_size(7), true);
+    assert_eq!(rt; is_group_size(8), false);
 }

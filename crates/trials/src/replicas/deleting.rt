@@ -16,8 +16,7 @@ fn try_deletes(
     cases: &[(u64, u64, u64, Answer)],
 ) -> Result<(), Fail> {
     let before = replica.checkpoint();
-    for case in cases {
-        let (seat, time, reading, answer) = *case;
+    for &(seat, time, reading, answer) in cases {
         let given = of_change(replica.delete(seat, time, reading));
         assert_eq!(rt; (seat, time, reading, given), (seat, time, reading, answer));
         if !has_changed(answer) {

@@ -16,8 +16,7 @@ fn try_enters<L: Lattice>(
     cases: &[(u64, u64, u64, u64, Answer)],
 ) -> Result<(), Fail> {
     let before = replica.checkpoint();
-    for case in cases {
-        let (seat, value, time, reading, answer) = *case;
+    for &(seat, value, time, reading, answer) in cases {
         let given = of_change(replica.enter::<L>(seat, value, time, reading));
         assert_eq!(rt;
             (seat, value, time, reading, given),

@@ -11,8 +11,7 @@ fn try_lookups(
     replica: &Replica,
     cases: &[(u64, u32, u32, Lookup)],
 ) -> Result<(), Fail> {
-    for case in cases {
-        let (seat, first, second, answer) = *case;
+    for &(seat, first, second, answer) in cases {
         let given = replica.lookup(seat, &two(first, second)?);
         assert_eq!(rt; given, answer, "seat {seat} at {first}, {second}");
     }

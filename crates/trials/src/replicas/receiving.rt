@@ -165,8 +165,7 @@ fn try_changes(
     message: &Gossip,
     cases: &[(usize, usize, u8, u64, Answer)],
 ) -> Result<(), Fail> {
-    for case in cases {
-        let (len, place, byte, reading, answer) = *case;
+    for &(len, place, byte, reading, answer) in cases {
         let mut room = [0; ROOM];
         message.write::<Counts>(&mut room)?;
         assert!(rt; place < ROOM);

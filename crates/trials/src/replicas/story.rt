@@ -1,7 +1,7 @@
 // A story of two replicas: a value is entered, told, deleted, told back and swept.
 use super::{Answer, of_change, of_receipt, of_sweep, of_two, two};
 use gossip::Counts;
-use replica::{Change, Lookup, Receipt, Replica};
+use replica::{Change, Lookup, Replica};
 use std::process::Abort;
 use std::test::Fail;
 
@@ -13,7 +13,7 @@ fn entered_and_deleted(rt: &impl Abort, zero: &mut Replica, one: &mut Replica) -
     );
     assert_eq!(rt;
         one.receive::<Counts>(&zero.message(), 22)?,
-        Receipt::New(two(1, 0)?)
+        Some(two(1, 0)?)
     );
     assert_eq!(rt; one.delete(100, 25, 25)?, Change::Set(two(1, 1)?));
     Ok(())

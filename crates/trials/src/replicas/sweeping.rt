@@ -12,8 +12,7 @@ use std::test::Fail;
 // Each sweep is tried on the same replica: reading, and the answer.
 fn try_sweeps(rt: &impl Abort, replica: &mut Replica, cases: &[(u64, Answer)]) -> Result<(), Fail> {
     let before = replica.checkpoint();
-    for case in cases {
-        let (reading, answer) = *case;
+    for &(reading, answer) in cases {
         assert_eq!(rt;
             (reading, of_sweep(replica.sweep(reading))),
             (reading, answer)
