@@ -1,5 +1,5 @@
 // The checkpoint as a value of its own.
-use gossip::{Gossip, Timestamp};
+use gossip::{Gossip, MOST, Timestamp};
 use std::marker::Model;
 
 mod building;
@@ -8,7 +8,7 @@ mod building;
 #[derive(Clone, Copy)]
 pub struct Checkpoint {
     pub(crate) message: Gossip,
-    pub(crate) rows: [Timestamp; 7],
+    pub(crate) rows: [Timestamp; MOST],
 }
 
 impl Model for Checkpoint {

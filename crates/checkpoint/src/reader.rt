@@ -6,7 +6,7 @@ ghost use Rattle.checkpoint.specs.Format.{decode_saved, encode_saved, with_rows_
 
 use crate::checkpoint::Checkpoint;
 use crate::unreadable::Unreadable;
-use gossip::{FRONT, Gossip, Lattice, Timestamp};
+use gossip::{FRONT, Gossip, Lattice, MOST, Timestamp};
 use std::array;
 
 impl Checkpoint {
@@ -47,7 +47,7 @@ fn with_rows(message: Gossip, bytes: &[u8]) -> Result<Checkpoint, Unreadable>
 }
 
 // The rows behind a message that bytes spell, and zeros for the replicas that its group has not.
-fn read_rows(message: &Gossip, bytes: &[u8]) -> [Timestamp; 7]
+fn read_rows(message: &Gossip, bytes: &[u8]) -> [Timestamp; MOST]
     requires { length bytes.now ≡ rows_length message.now.head.n }
     ensures { result ≡ rows_at message.now.head.n bytes.now }
 {

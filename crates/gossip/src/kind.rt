@@ -3,7 +3,7 @@ ghost use Rattle.std.specs.Prelude.{◌≡◌};
 ghost use Rattle.gossip.specs.Format.{decode};
 ghost use Rattle.gossip.specs.Kinds.{lattice_of, Named};
 
-use crate::lattice::{Counts, Lattice, Ports};
+use crate::lattice::{COUNTS, Counts, Lattice, PORTS, Ports};
 use crate::message::Gossip;
 use crate::refusal::Refusal;
 
@@ -47,8 +47,8 @@ impl TryFrom<u8> for Kind {
 
     fn try_from(number: u8) -> Result<Kind, UnknownKind> {
         match number {
-            1 => Ok(Kind::Counts),
-            2 => Ok(Kind::Ports),
+            COUNTS => Ok(Kind::Counts),
+            PORTS => Ok(Kind::Ports),
             _ => Err(UnknownKind),
         }
     }

@@ -22,6 +22,11 @@ pub trait Lattice {
     ghost lawful: { Laws kind };
 }
 
+// The numbers of the two kinds in messages.
+pub(crate) const COUNTS: u8 = 1;
+
+pub(crate) const PORTS: u8 = 2;
+
 // The largest count, and the largest set of ports.
 const MOST_COUNT: u64 = 4_294_967_295;
 
@@ -37,7 +42,7 @@ impl Lattice for Counts {
     ghost lawful = { counts_laws };
 
     fn number() -> u8 {
-        1
+        COUNTS
     }
 
     fn is_value(code: u64) -> bool {
@@ -59,7 +64,7 @@ impl Lattice for Ports {
     ghost lawful = { ports_laws };
 
     fn number() -> u8 {
-        2
+        PORTS
     }
 
     fn is_value(code: u64) -> bool {

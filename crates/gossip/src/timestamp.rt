@@ -18,7 +18,7 @@ pub const MOST: usize = 7;
 // One counter a replica; the parts past the group's n are 0.
 #[derive(Clone, Copy, PartialEq, Eq, Debug)]
 pub struct Timestamp {
-    pub(crate) parts: [u32; 7],
+    pub(crate) parts: [u32; MOST],
 }
 
 impl Timestamp {
@@ -26,7 +26,7 @@ impl Timestamp {
     pub fn zero() -> Timestamp
         ensures answer { result.parts ≡ padded [] }
     {
-        Timestamp { parts: [0; 7] }
+        Timestamp { parts: [0; MOST] }
     }
 
     // Keeps the larger of each part.
@@ -58,7 +58,7 @@ impl Timestamp {
         if !is_group_size(n) || buffer.len() != n {
             return Err(Refusal::Parts);
         }
-        let mut parts = [0; 7];
+        let mut parts = [0; MOST];
         parts[0..n].copy_from_slice(buffer);
         Ok(Timestamp { parts })
     }

@@ -3,7 +3,7 @@ ghost use Rattle.std.specs.Prelude.{◌≡◌, true};
 ghost use Rattle.replica.specs.Memories.{sound_memory};
 
 use crate::membership::Membership;
-use gossip::Timestamp;
+use gossip::{MOST, Timestamp};
 use table::Table;
 
 mod changing;
@@ -21,6 +21,6 @@ pub struct Replica {
     clock: u64,
     timestamp: Timestamp,
     table: Table,
-    rows: [Timestamp; 7],
+    rows: [Timestamp; MOST],
     ghost sound: { sound_memory membership record { clock = clock; timestamp = timestamp; entries = table; rows = rows } ≡ true },
 }

@@ -8,11 +8,11 @@ ghost use Rattle.checkpoint.specs.Contents.{joined_to};
 
 use super::Checkpoint;
 use crate::unreadable::Unreadable;
-use gossip::{Gossip, Timestamp};
+use gossip::{Gossip, MOST, Timestamp};
 
 impl Checkpoint {
     // A message with the rows of its sender. Rows that no reader would take are refused.
-    pub fn new(message: Gossip, rows: [Timestamp; 7]) -> Result<Checkpoint, Unreadable>
+    pub fn new(message: Gossip, rows: [Timestamp; MOST]) -> Result<Checkpoint, Unreadable>
         ensures answer { result ≡ joined_to message rows }
     {
         let head = message.head();
@@ -34,7 +34,7 @@ impl Checkpoint {
     }
 
     // The latest timestamp heard from each replica; those past the group's n are zero.
-    pub fn rows(&self) -> [Timestamp; 7]
+    pub fn rows(&self) -> [Timestamp; MOST]
         ensures answer { result ≡ self.now.rows }
         ensures sound { sound_saved self.now ≡ true }
     {
@@ -44,7 +44,7 @@ impl Checkpoint {
 
 // Whether each row is at or under the timestamp `top`, and the row of replica `own` at or above it too.
 // Rows that are under a timestamp are as wide as it, since all have as many parts.
-fn rows_hold(rows: &[Timestamp; 7], own: usize, top: &Timestamp) -> bool
+fn rows_hold(rows: &[Timestamp; MOST], own: usize, top: &Timestamp) -> bool
     ensures answer { result ≡ rows_all_hold own top.now rows.now }
     ensures wide { result ≡ true → wide_timestamp top.now ≡ true → list_all wide_timestamp rows.now ≡ true }
 {
@@ -57,14 +57,14 @@ fn rows_hold(rows: &[Timestamp; 7], own: usize, top: &Timestamp) -> bool
 }
 
 // A replica's row, zero for a replica that there is not.
-fn row_of(rows: &[Timestamp; 7], replica: usize) -> Timestamp
+fn row_of(rows: &[Timestamp; MOST], replica: usize) -> Timestamp
     ensures { result ≡ row rows.now replica }
 {
     rows.get(replica).copied().unwrap_or(Timestamp::zero())
 }
 
 // Whether the rows from the n-th on are zero.
-fn are_zero(rows: &[Timestamp; 7], n: usize) -> bool
+fn are_zero(rows: &[Timestamp; MOST], n: usize) -> bool
     ensures { result ≡ list_all (λ row. zero_from 0 row.parts) (drop n rows.now) }
 {
     rows.iter().skip(n).all(|row| row.is_of(0))

@@ -6,7 +6,7 @@ ghost use Rattle.replica.specs.Memories.{fresh, alone, joins};
 use super::Replica;
 use crate::membership::Membership;
 use crate::refusal::Refusal;
-use gossip::{Timestamp, is_group_size};
+use gossip::{MOST, Timestamp, is_group_size};
 use std::alloc::{AllocError, Global};
 use table::Table;
 
@@ -30,7 +30,7 @@ impl Replica {
             clock: 0,
             timestamp: zero,
             table,
-            rows: [zero; 7],
+            rows: [zero; MOST],
         })
     }
 
@@ -51,7 +51,7 @@ impl Replica {
         self.membership = membership;
         self.clock = 0;
         self.timestamp = zero;
-        self.rows = [zero; 7];
+        self.rows = [zero; MOST];
         Ok(())
     }
 }

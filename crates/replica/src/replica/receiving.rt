@@ -8,7 +8,7 @@ ghost use Rattle.replica.specs.Steps.{step, receives, receive_bytes, hear, toget
 
 use super::Replica;
 use crate::refusal::Refusal;
-use gossip::{Gossip, Head, LATEST, Lattice, Timestamp};
+use gossip::{Gossip, Head, LATEST, Lattice, MOST, Timestamp};
 
 impl Replica {
     // Takes in a message. The answer is the replica's timestamp once it has learnt from it; none where the message has no news.
@@ -67,7 +67,7 @@ impl Replica {
     }
 
     // The rows once a message is taken in: its sender's row takes in its timestamp, and the own row is the replica's new timestamp.
-    fn rows_with(&self, head: &Head, timestamp: Timestamp) -> [Timestamp; 7]
+    fn rows_with(&self, head: &Head, timestamp: Timestamp) -> [Timestamp; MOST]
         requires { head.now.sender < 7 }
         ensures answer { result ≡ update (update self.now.rows head.now.sender (together (row self.now.rows head.now.sender) head.now.timestamp)) self.now.membership.replica timestamp }
     {
