@@ -52,10 +52,10 @@ impl fmt::Display for Fault {
 }
 
 // The most digits of a message: two for each of its bytes.
-const MOST_DIGITS: usize = 6_640;
+const MOST_DIGITS: usize = 2 * ROOM;
 
 // What of a long line is enough to read it as the whole: one more than the most digits, and a carriage return.
-pub const KEPT: usize = 6_642;
+pub const KEPT: usize = MOST_DIGITS + 2;
 
 // The first byte of a note, and the byte that may stand before a line end.
 const NOTE: u8 = b'#';

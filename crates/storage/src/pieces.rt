@@ -71,9 +71,7 @@ impl<'a> Piece<'a> {
         }
         let len = usize::from(u16::from_le_bytes([low, high]));
         let (bytes, rest) = behind.split_at_checked(len)?;
-        let Ok(piece) = Piece::new(usize::from(number), bytes) else {
-            return None;
-        };
+        let piece = Piece::new(usize::from(number), bytes).ok()?;
         Some((piece, rest))
     }
 }
