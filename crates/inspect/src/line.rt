@@ -1,21 +1,21 @@
 // A line of input: what it is, and the bytes that its hexadecimal digits spell.
-ghost use Rattle.std.specs.Prelude.{◌≡◌, ◌<◌, ◌≤◌, true, length, Some};
-ghost use Rattle.std.specs.Char.{digit_value, is_ascii_hexdigit};
+ghost use Rattle.std.specs.Prelude.{◌≡◌, ◌<◌, ◌≤◌, true, [], length, Some};
+ghost use Rattle.std.specs.Char.{is_ascii_hexdigit};
 ghost use Rattle.std.specs.List.{list_all};
-ghost use Rattle.inspect.specs.Hex.{pairs};
-ghost use Rattle.inspect.specs.Lines.{trimmed, spelled, line_of, Decisive, cause};
+ghost use Rattle.gossip.specs.Refusals.{outcome};
+ghost use Rattle.inspect.specs.Hex.{digit, pairs};
+ghost use Rattle.inspect.specs.Lines.{trimmed, spelled, found, line_of, bytes_of, Decisive, cause};
 
 use arrayvec::ArrayVec;
 use gossip::ROOM;
 use std::fmt;
 
-// What a line is that can be read.
-#[derive(Drop)]
+// What a line is that can be read. The bytes of a message stand in the caller's buffer.
+#[derive(Clone, Copy, PartialEq, Eq, Debug)]
 pub enum Line {
     Blank,
     Note,
-    // The bytes of a message.
-    Message(ArrayVec<u8, ROOM>),
+    Message,
 }
 
 // What is wrong with a line that cannot be read.
@@ -64,15 +64,20 @@ const RETURN: u8 = b'\r';
 
 impl Line {
     // What a line without its line end is, also where no more than `KEPT` bytes of it are left.
-    #[tactic(auto, using(crate::proofs::Kept::decisive))]
-    pub fn read(text: &[u8]) -> Result<Line, Fault>
+    // The buffer holds the bytes of a message then, and none at any other line.
+    pub fn read(text: &[u8], buffer: &mut ArrayVec<u8, ROOM>) -> Result<Line, Fault>
         ensures answer { result ≡ line_of text.now }
+        ensures buffer { buffer.new.items ≡ bytes_of text.now }
         ensures cut { Decisive text.now }
     {
+        buffer.clear();
         match without_return(text) {
             [] => Ok(Line::Blank),
             [NOTE, ..] => Ok(Line::Note),
-            digits => Ok(Line::Message(read_hex(digits)?)),
+            digits => {
+                read_hex(digits, buffer)?;
+                Ok(Line::Message)
+            }
         }
     }
 }
@@ -87,9 +92,11 @@ fn without_return(text: &[u8]) -> &[u8]
     }
 }
 
-// The bytes that digits spell, or what is wrong with them first.
-fn read_hex(digits: &[u8]) -> Result<ArrayVec<u8, ROOM>, Fault>
-    ensures { result ≡ spelled digits.now }
+// Puts the bytes that digits spell into an empty buffer, or says what is wrong with them first and puts none there.
+fn read_hex(digits: &[u8], buffer: &mut ArrayVec<u8, ROOM>) -> Result<(), Fault>
+    requires { buffer.old.items ≡ [] }
+    ensures answer { result ≡ outcome (λ _. tt) (spelled digits.now) }
+    ensures buffer { buffer.new.items ≡ found (spelled digits.now) }
 {
     if digits.len() > MOST_DIGITS {
         return Err(Fault::Long);
@@ -100,7 +107,8 @@ fn read_hex(digits: &[u8]) -> Result<ArrayVec<u8, ROOM>, Fault>
     if digits.len() % 2 != 0 {
         return Err(Fault::Odd);
     }
-    Ok(bytes_of(digits))
+    put_bytes(digits, buffer);
+    Ok(())
 }
 
 // Whether each character is a hexadecimal digit, of either case.
@@ -110,24 +118,23 @@ fn are_digits(text: &[u8]) -> bool
     text.iter().all(|c| c.is_ascii_hexdigit())
 }
 
-// The bytes that pairs of digits spell.
-fn bytes_of(digits: &[u8]) -> ArrayVec<u8, ROOM>
+// Puts the bytes that pairs of digits spell into an empty buffer.
+fn put_bytes(digits: &[u8], bytes: &mut ArrayVec<u8, ROOM>)
+    requires empty { bytes.old.items ≡ [] }
     requires digits { list_all is_ascii_hexdigit digits.now ≡ true }
     requires room { length digits.now ≤ 6640 }
-    ensures { result.items ≡ pairs digits.now }
+    ensures { bytes.new.items ≡ pairs digits.now }
 {
-    let mut bytes = ArrayVec::new();
     for pair in digits.chunks_exact(2) {
         bytes.push(16 * value(pair[0]) + value(pair[1]));
     }
-    bytes
 }
 
 // The value of a digit.
-fn value(digit: u8) -> u8
-    requires { is_ascii_hexdigit digit ≡ true }
-    ensures value { result ≡ digit_value digit }
+fn value(c: u8) -> u8
+    requires { is_ascii_hexdigit c ≡ true }
+    ensures value { Some result ≡ digit c }
     ensures small { result < 16 }
 {
-    char::from(digit).to_digit(16).unwrap() as u8
+    char::from(c).to_digit(16).unwrap() as u8
 }

@@ -11,7 +11,8 @@ mod input;
 mod line;
 mod show;
 
-use gossip::Kind;
+use arrayvec::ArrayVec;
+use gossip::{Kind, ROOM};
 use input::Lines;
 use line::Line;
 use show::Shown;
@@ -24,20 +25,26 @@ fn main(rt: HostRuntime) -> io::Result<()> {
 // Answers each line as soon as it is read, so that a pipe's other end need not wait.
 fn run(rt: &HostRuntime) -> io::Result<()> {
     let mut lines = Lines::new(rt.alloc(), rt.stdin())?;
+    let mut buffer = ArrayVec::new();
     for number in 1..u64::MAX {
         let Some(text) = lines.next()? else {
             break;
         };
-        answer(rt, number, text)?;
+        answer(rt, number, text, &mut buffer)?;
     }
     Ok(())
 }
 
 // Prints what the line of this number says, or what is wrong with it.
-fn answer(rt: &impl Print, number: u64, text: &[u8]) -> io::Result<()> {
-    match Line::read(text) {
+fn answer(
+    rt: &impl Print,
+    number: u64,
+    text: &[u8],
+    buffer: &mut ArrayVec<u8, ROOM>,
+) -> io::Result<()> {
+    match Line::read(text, buffer) {
         Ok(Line::Blank | Line::Note) => Ok(()),
-        Ok(Line::Message(bytes)) => answer_message(rt, bytes.as_slice()),
+        Ok(Line::Message) => answer_message(rt, buffer.as_slice()),
         Err(fault) => println!(rt; "line {number}: {fault}"),
     }
 }

@@ -2,7 +2,7 @@ use Rattle.std.proofs.Common.{ap, ◌∙◌, ◌++◌, arith, length, length-app
 use Rattle.std.specs.Slice.Iter.{chunks_exact_rest}
 use Rattle.inspect.specs.Hex.{pairs}
 use Rattle.inspect.proofs.Spelled.{spelled_more, digits_behind}
-use Rattle.inspect.proofs.line.bytes_of.Goals as goal
+use Rattle.inspect.proofs.line.put_bytes.Goals as goal
 
 pub loop-pair-preserved : goal.loop-pair-preserved
 loop-pair-preserved c =
