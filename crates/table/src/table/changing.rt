@@ -4,6 +4,7 @@ ghost use Rattle.std.specs.Borrow.{sem, follows_so};
 ghost use Rattle.std.specs.Option.{ghost_name_of as name_of, option_map};
 ghost use Rattle.gossip.specs.contracts.entry.State.{the_row as state-row};
 ghost use Rattle.table.specs.Entries.{find, changed, put, fits};
+ghost use Rattle.table.specs.Tables.{Sorted};
 ghost use Rattle.table.specs.contracts.table.Table.{the_row as table-row};
 
 use super::Table;
@@ -25,6 +26,7 @@ impl Table {
     pub fn put(&mut self, seat: u64, state: State) -> Result<(), Full>
         ensures answer { is_ok result ≡ fits (put self.old seat state) }
         ensures after { self.new ≡ (if is_ok result then put self.old seat state else self.old) }
+        ensures sorted { Sorted self.new }
     {
         match self.place(seat) {
             Ok(place) => self.entries[place].state = state,
@@ -41,6 +43,7 @@ impl Table {
     // Takes out every entry, and keeps the memory.
     pub fn clear(&mut self)
         ensures after { self.new ≡ [] }
+        ensures sorted { Sorted self.new }
     {
         self.entries.clear();
     }
@@ -48,6 +51,7 @@ impl Table {
     // Becomes a copy of another table, in its own memory, which suffices.
     pub fn copy_from(&mut self, other: &Table)
         ensures after { self.new ≡ other.now }
+        ensures sorted { Sorted self.new }
     {
         self.clear();
         let _ = self.entries.extend_from_slice(&other.entries);

@@ -1,6 +1,7 @@
 // Taking in what another replica tells.
 ghost use Rattle.std.specs.Prelude.{◌≡◌, is_ok, if◌then◌else◌};
 ghost use Rattle.table.specs.Entries.{fits, absorbed, merge, fresh};
+ghost use Rattle.table.specs.Tables.{Sorted};
 
 use super::Table;
 use crate::combining::combine;
@@ -12,6 +13,7 @@ impl Table {
     pub fn merge<L: Lattice>(&mut self, message: &Gossip) -> Result<(), Full>
         ensures answer { is_ok result ≡ fits (merge L.kind.join self.old message.now.entries) }
         ensures after { self.new ≡ (if is_ok result then merge L.kind.join self.old message.now.entries else self.old) }
+        ensures sorted { Sorted self.new }
     {
         let entries = message.entries();
         if self.len() + self.fresh(entries) > ENTRIES {

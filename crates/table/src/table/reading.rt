@@ -11,6 +11,7 @@ impl Table {
     // A table without entries, with memory for all that it can ever hold.
     pub fn new(heap: Global) -> Result<Table, AllocError>
         ensures answer { IfOk result (λ t. t ≡ []) }
+        ensures sorted { IfOk result Sorted }
     {
         let entries = Vec::with_capacity(heap, ENTRIES)?;
         Ok(Table { entries })

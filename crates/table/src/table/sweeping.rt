@@ -1,6 +1,7 @@
 // Removing the tombstones that are no longer needed.
 ghost use Rattle.std.specs.Prelude.{◌≡◌, length};
 ghost use Rattle.table.specs.Entries.{under_rows, expired, swept, removable};
+ghost use Rattle.table.specs.Tables.{Sorted};
 
 use super::Table;
 use gossip::{State, Timestamp};
@@ -10,6 +11,7 @@ impl Table {
     pub fn sweep(&mut self, grace: u64, clock: u64, rows: &[Timestamp]) -> usize
         ensures answer { result ≡ length (removable grace clock rows.now self.old) }
         ensures after { self.new ≡ swept grace clock rows.now self.old }
+        ensures sorted { Sorted self.new }
     {
         let before = self.entries.len();
         self.entries

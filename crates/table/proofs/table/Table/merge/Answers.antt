@@ -16,7 +16,7 @@ pub returns-then-len-fresh-gt-ENTRIES : goal.returns-then-len-fresh-gt-ENTRIES
 returns-then-len-fresh-gt-ENTRIES g c =
     let e = c.entries-entries.ensures.answer in
     let n = size g.L.Lattice.kind.join c.args.self.now c.args.message.now _ c.len.ensures.sorted e c.entries-entries.ensures.sound in
-    rw (← e) (record { answer = grind (arith, nat_tests, n); after = refl })
+    rw (← e) (record { answer = grind (arith, nat_tests, n); after = refl; sorted = c.len.ensures.sorted })
 
 -- each entry is taken in, since all fit
 pub loop-entry-preserved : goal.loop-entry-preserved
@@ -40,7 +40,9 @@ returns g c =
     let fs = c.entries-entries.result.now in
     let e = c.entries-entries.ensures.answer in
     let n = size j c.args.self.now c.args.message.now fs c.len.ensures.sorted e c.entries-entries.ensures.sound in
+    let after = sym (merge_all j c.loop-entry.self fs c.loop-entry.entry-index c.loop-entry-test.false) ∙ c.loop-entry.invariant.rest in
     rw (← e) (record {
       answer = grind (arith, nat_tests, n);
-      after = sym (merge_all j c.loop-entry.self fs c.loop-entry.entry-index c.loop-entry-test.false) ∙ c.loop-entry.invariant.rest;
+      after = after;
+      sorted = record { rising = c.loop-entry.invariant.rising; few = omega (arith, n, ap length after) };
     })

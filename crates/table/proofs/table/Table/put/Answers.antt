@@ -19,6 +19,7 @@ returns-in-Ok c =
     rw (← c.self.view_is) (record {
       answer = sym (fits-found es s _ c.args.state there);
       after = put-held es s _ _ at c.index_mut.result.now c.index_mut.ensures.value c.args.state;
+      sorted = sorted-set es s _ c.index_mut.result.now _ c.index_mut.ensures.value;
     })
 
 -- no room for one more
@@ -29,6 +30,7 @@ returns-then-len-ge-ENTRIES c =
     rw (← c.self.view_is) (record {
       answer = grind (arith, nat_tests, fits-new es c.self.invariant.sorted _ c.args.state (find-gap es _ _ gap), c.self.inside.entries.ok.0);
       after = refl;
+      sorted = c.self.invariant.sorted;
     })
 
 -- an entry in the gap, for which there is room, and memory
@@ -47,4 +49,4 @@ invariant_of-self-in-Err c =
     record { sorted = rw a.0 (sorted-put _ c.self.invariant.sorted _ _ a.1); room = omega (arith, c.self.invariant.room, c.insert.ensures.capacity) }
 
 pub returns-else-len-ge-ENTRIES : goal.returns-else-len-ge-ENTRIES
-returns-else-len-ge-ENTRIES c = let a = added c in rw (← c.self.view_is) (record { answer = sym a.1; after = a.0 })
+returns-else-len-ge-ENTRIES c = let a = added c in rw (← c.self.view_is) (record { answer = sym a.1; after = a.0; sorted = rw a.0 (sorted-put _ c.self.invariant.sorted _ _ a.1) })

@@ -15,4 +15,8 @@ invariant_of-self c = record {
 }
 
 pub returns : goal.returns
-returns c = rw (← c.self.view_is) (record { answer = omega (arith, ap length (kept c), length-swept c.args.grace c.args.clock c.args.rows.now c.self.inside.entries.items); after = kept c })
+returns c = rw (← c.self.view_is) (record {
+  answer = omega (arith, ap length (kept c), length-swept c.args.grace c.args.clock c.args.rows.now c.self.inside.entries.items);
+  after = kept c;
+  sorted = rw (kept c) (sorted-swept c.args.grace c.args.clock c.args.rows.now _ c.self.invariant.sorted);
+})
