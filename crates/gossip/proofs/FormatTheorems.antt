@@ -1,9 +1,9 @@
 -- Reading and writing undo each other: a sound message is read back from its spelling, and what reads is sound and spelled in one way.
-use Rattle.std.proofs.Common.{◌≡◌, ℕ, ◌*◌, true, List, [], map, length, get_or, drop, Some, None, Ok, Option, sym, refl, ap, ◌∙◌, append-nil, arith, length-drop, ◌+◌, ◌≤◌}
+use Rattle.std.proofs.Common.{◌≡◌, ℕ, ◌*◌, true, List, [], map, length, get_or, drop, Some, None, Ok, Option, sym, refl, ap, ◌∙◌, append-nil, arith, length-drop}
 use Rattle.std.specs.List.{list_all}
 use lib.ListN.{length-map}
 use Rattle.std.proofs.lemmas.List.{drop_all}
-use Rattle.gossip.specs.Format.{decode, decode_entries, decode_head, encode, encode_entry, entries_at, entries_of, entry_bytes, entry_length, head_at, message_length, seat_at, with_entries, encode_timestamp}
+use Rattle.gossip.specs.Format.{decode, decode_entries, decode_head, encode, encode_entry, entries_at, entries_of, entry_bytes, entry_length, head_at, message_length, seat_at, with_entries}
 use Rattle.gossip.specs.FormatLaws.{ReadsBack, SoleSpelling, ReadsSound}
 use Rattle.gossip.specs.Lattices.{Kind}
 use Rattle.gossip.specs.Messages.{Message, of_kind, rises, sound, sound_head, sound_entry}
@@ -19,7 +19,7 @@ use Rattle.gossip.proofs.Sound.{Parts, head_to_parts, parts, whole}
 use Rattle.gossip.proofs.Spelling.{joined-pieces, length-joined, nothing_behind, pieces-joined, pieces_whole}
 use Rattle.gossip.proofs.TimestampBytes.{length-encode_timestamp}
 use Rattle.gossip.proofs.Unless.{and_then_ok, passed, unless_ok}
-use Rattle.gossip.proofs.Written.{message_long, message_fits}
+use Rattle.gossip.proofs.Written.{message_long}
 
 -- a head that reads is sound
 pub head-sound : (k : Kind) (b : List ℕ) (h : Head) → Bytes b → decode_head k b ≡ Ok h → sound_head h ≡ true
@@ -57,17 +57,6 @@ sound_long k m s =
     let h = head_to_parts m.head p.head in
     message_long k m (length-encode_timestamp n m.head.timestamp h.most h.wide)
     (length-joined (encode_entry n) (entry_length n) m.entries (entries_long n m.head.timestamp h.most m.entries p.each))
-
--- and its timestamp and entries have room behind its front
-pub sound_fits : (m : Message) → sound m ≡ true → 24 + length (encode_timestamp m.head.n m.head.timestamp) + length (joined (encode_entry m.head.n) m.entries) ≤ 3124
-sound_fits m s =
-    let n = m.head.n in
-    let p = parts m s in
-    let h = head_to_parts m.head p.head in
-    let t = length-encode_timestamp n m.head.timestamp h.most h.wide in
-    let e = length-joined (encode_entry n) (entry_length n) m.entries (entries_long n m.head.timestamp h.most m.entries p.each) in
-    let f = message_fits n (length m.entries) h.most p.few in
-    omega (arith, t, e, f)
 
 -- What reads
 

@@ -3,7 +3,7 @@ use Rattle.std.proofs.Common.{◌≡◌, ℕ, zero, suc, ◌+◌, ◌<◌, ◌�
 use lib.Seq.{drop-append-add}
 use borrow.Rule.Slice.PartMut.{put_mid}
 use Rattle.std.proofs.lemmas.List.{drop_all}
-use Rattle.gossip.specs.Numbers.{spell, total, put_at, joined}
+use Rattle.gossip.specs.Numbers.{bytes, spell, total, put_at, joined}
 use Rattle.gossip.proofs.NumberLaws.{length-bytes}
 
 -- nothing written
@@ -46,6 +46,14 @@ length-spell (w ∷ ws) (v ∷ vs) h =
     let r = length-spell ws vs (omega arith) in
     let b = length-bytes w v in
     simp length-append (omega arith)
+
+-- one more number, of one more width
+pub spell_push : (ws vs : List ℕ) (w v : ℕ) → length ws ≡ length vs → spell (ws ++ w ∷ []) (vs ++ v ∷ []) ≡ spell ws vs ++ bytes w v
+unfolding spell
+spell_push [] [] w v h = append-nil (bytes w v)
+spell_push [] (x ∷ vs) w v h = absurd (omega arith)
+spell_push (u ∷ ws) [] w v h = absurd (omega arith)
+spell_push (u ∷ ws) (x ∷ vs) w v h = ap (λ z. bytes u x ++ z) (spell_push ws vs w v (omega arith)) ∙ sym (append_assoc (bytes u x) (spell ws vs) (bytes w v))
 
 -- a write to a part, as the checker reads it
 pub put_mid-put_at : (at k : ℕ) (o ys : List ℕ) → length ys ≡ k → put_mid at k o ys ≡ put_at at ys o

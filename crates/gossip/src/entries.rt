@@ -48,13 +48,14 @@ impl Entries {
         }
     }
 
-    // Adds an entry behind the others.
+    // Adds an entry behind the others. The count is read once, since the compiler cannot tell that it is not in the place that is written.
     pub(crate) fn push(&mut self, entry: Entry)
         requires { length self.old < 64 }
         ensures { self.new ≡ self.old ++ entry ∷ [] }
     {
-        self.places[self.count] = entry;
-        self.count += 1;
+        let count = self.count;
+        self.places[count] = entry;
+        self.count = count + 1;
     }
 
     // The entries as a slice.

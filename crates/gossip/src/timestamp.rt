@@ -1,13 +1,14 @@
 // Multipart timestamps: one counter for each replica of a group.
-ghost use Rattle.std.specs.Prelude.{◌≡◌, ◌*◌, ◌≤◌, true, [], length, take, is_ok, if◌then◌else◌, Ok, nat_lt};
+ghost use Rattle.std.specs.Prelude.{◌≡◌, ◌+◌, ◌*◌, ◌≤◌, true, [], length, take, is_ok, if◌then◌else◌, Ok, nat_lt};
 ghost use Rattle.gossip.specs.Comparing.{compared, compared_lawful};
 ghost use Rattle.gossip.specs.Format.{encode_timestamp, timestamp_at};
 ghost use Rattle.gossip.specs.Messages.{wide_timestamp};
+ghost use Rattle.gossip.specs.Numbers.{put_at};
 ghost use Rattle.gossip.specs.Refusals.{unless};
 ghost use Rattle.gossip.specs.declared.refusal.Refusal.TheVariants.{Replica, Full, Parts};
 ghost use Rattle.gossip.specs.Timestamps.{part, under, merged, bumped, padded, exactly, exactly_bytes, zero_from, group_size};
 
-use crate::numbers::u32_at;
+use crate::numbers::{put, u32_at};
 use crate::refusal::Refusal;
 use std::array;
 use std::cmp::Ordering;
@@ -93,10 +94,20 @@ impl Timestamp {
         if !is_group_size(n) || out.len() != 4 * n {
             return Err(Refusal::Parts);
         }
-        for (i, part) in self.prefix(n).iter().enumerate() {
-            out[4 * i..4 * i + 4].copy_from_slice(&part.to_le_bytes());
-        }
+        self.put_parts(n, out, 0);
         Ok(())
+    }
+
+    // Writes the first n parts from a place on. That it has so many is known here by its type, and passed on as the length of what is written.
+    pub(crate) fn put_parts(&self, n: usize, out: &mut [u8], at: usize)
+        requires few { n ≤ 7 }
+        requires within { at + 4 * n ≤ length out.old }
+        ensures written { out.new ≡ put_at at (encode_timestamp n self.now) out.old }
+        ensures long { length (encode_timestamp n self.now) ≡ 4 * n }
+    {
+        for (i, part) in self.prefix(n).iter().enumerate() {
+            put(out, at + 4 * i, &part.to_le_bytes());
+        }
     }
 
     // The first n parts, or all seven where n is larger.
@@ -110,17 +121,18 @@ impl Timestamp {
         }
     }
 
-    // Whether it is at or under another: each of its parts is at most the other's.
+    // Whether it is at or under another: each of its parts is at most the other's. All are looked at, since several are compared at once then.
     pub fn is_under(&self, other: &Timestamp) -> bool
         ensures answer { result ≡ under self.now.parts other.now.parts }
         ensures alike { length self.now.parts ≡ length other.now.parts }
     {
+        let mut under = true;
         for (mine, theirs) in self.parts.iter().zip(&other.parts) {
             if mine > theirs {
-                return false;
+                under = false;
             }
         }
-        true
+        under
     }
 
     // Whether it is a timestamp of n replicas: the parts from the n-th on are 0.

@@ -1,8 +1,7 @@
 // Writing a gossip message.
-ghost use Rattle.std.specs.Prelude.{◌≡◌, ◌+◌, ◌≤◌, true, [], ◌++◌, length, take, IfOk, if◌then◌else◌, Ok};
+ghost use Rattle.std.specs.Prelude.{◌≡◌, ◌+◌, ◌*◌, ◌≤◌, true, length, take, IfOk, if◌then◌else◌, Ok};
 ghost use Rattle.std.specs.List.{list_all};
-ghost use Rattle.arrayvec.specs.ArrayVec.{array_vec_len};
-ghost use Rattle.gossip.specs.Format.{decode, encode, encode_entry, encode_timestamp, head_numbers, head_widths};
+ghost use Rattle.gossip.specs.Format.{decode, encode, encode_entry, encode_timestamp, entry_length, head_numbers, head_widths, message_length, timestamp_of};
 ghost use Rattle.gossip.specs.Messages.{of_kind, of_kind_state};
 ghost use Rattle.gossip.specs.Numbers.{joined, put_at, spell};
 ghost use Rattle.gossip.specs.Refusals.{unless};
@@ -11,16 +10,13 @@ ghost use Rattle.gossip.specs.declared.refusal.Refusal.TheVariants.{Mark};
 use crate::entry::{Entry, State};
 use crate::lattice::Lattice;
 use crate::message::Gossip;
+use crate::numbers::put;
 use crate::reader::{FORM, FRONT};
 use crate::refusal::Refusal;
 use crate::timestamp::Timestamp;
-use arrayvec::ArrayVec;
 
 // Room for the longest checkpoint, and so for the longest message, which has 3,124 bytes.
 pub const ROOM: usize = 3_320;
-
-// A message as it is spelled, as far as it is.
-type Spelling = ArrayVec<u8, ROOM>;
 
 impl Gossip {
     // Writes the message, as one of the lattice's kind, to the front of the bytes and leaves the rest. The answer is its length.
@@ -44,31 +40,36 @@ impl Gossip {
         ensures back { of_kind L.kind self.now ≡ true → decode L.kind (take result out.new) ≡ Ok self.now }
         ensures fits { result ≤ 3124 }
     {
-        let mut spelling = Spelling::new();
-        self.put_front::<L>(&mut spelling);
-        put_timestamp(&mut spelling, &self.head.timestamp, self.head.n);
-        put_entries(&mut spelling, self.entries(), self.head.n);
-        let len = spelling.len();
-        out[0..len].copy_from_slice(spelling.as_slice());
+        let n = self.head.n;
+        let entries_at = FRONT + 4 * n;
+        let len = self.put_front::<L>(out);
+        self.head.timestamp.put_parts(n, out, FRONT);
+        put_entries(out, entries_at, n, self.entries());
         len
     }
 
-    // Puts the fixed front of the message's spelling: what stands before its timestamp.
-    fn put_front<L: Lattice>(&self, out: &mut Spelling)
-        requires { out.old.items ≡ [] }
-        ensures { out.new.items ≡ spell head_widths (head_numbers L.kind self.now.head (length self.now.entries)) }
+    // Writes the fixed front of the message's spelling, what stands before its timestamp. The answer is the length of the whole, which the front says.
+    fn put_front<L: Lattice>(&self, out: &mut [u8]) -> usize
+        requires { 24 ≤ length out.old }
+        ensures answer { result ≡ message_length self.now.head.n (length self.now.entries) }
+        ensures written { out.new ≡ put_at 0 (spell head_widths (head_numbers L.kind self.now.head (length self.now.entries))) out.old }
     {
         let n = self.head.n;
         let count = self.entries().len();
         let entries_at = FRONT + 4 * n;
         let len = entries_at + count * (20 + 4 * n);
-        put(out, &[FORM, L::number(), n as u8, self.head.sender as u8]);
-        put(out, &self.head.group.to_le_bytes());
-        put(out, &(count as u16).to_le_bytes());
-        put(out, &(FRONT as u16).to_le_bytes());
-        put(out, &(entries_at as u16).to_le_bytes());
-        put(out, &(len as u16).to_le_bytes());
-        put(out, &self.head.clock.to_le_bytes());
+        put(
+            out,
+            0,
+            &[FORM, L::number(), n as u8, self.head.sender as u8],
+        );
+        put(out, 4, &self.head.group.to_le_bytes());
+        put(out, 8, &(count as u16).to_le_bytes());
+        put(out, 10, &(FRONT as u16).to_le_bytes());
+        put(out, 12, &(entries_at as u16).to_le_bytes());
+        put(out, 14, &(len as u16).to_le_bytes());
+        put(out, 16, &self.head.clock.to_le_bytes());
+        len
     }
 }
 
@@ -88,42 +89,40 @@ fn is_of_kind<L: Lattice>(state: &State) -> bool
     }
 }
 
-// Puts bytes behind those that are there.
-fn put(out: &mut Spelling, bytes: &[u8])
-    requires { array_vec_len out.old + length bytes.now ≤ 3320 }
-    ensures { out.new.items ≡ out.old.items ++ bytes.now }
+// Writes an entry of a message of n replicas from a place on.
+fn put_entry(out: &mut [u8], at: usize, n: usize, entry: &Entry)
+    requires few { n ≤ 7 }
+    requires within { at + entry_length n ≤ length out.old }
+    ensures written { out.new ≡ put_at at (encode_entry n entry.now) out.old }
+    ensures long { length (encode_entry n entry.now) ≡ entry_length n }
 {
-    out.try_extend_from_slice(bytes).unwrap();
+    put(out, at, &entry.seat.to_le_bytes());
+    put(out, at + 8, &entry.state.word().to_le_bytes());
+    put(out, at + 16, &entry.state.mark().to_le_bytes());
+    put_timestamp(out, at + 20, n, &entry.state);
 }
 
-// Puts the first n parts of a timestamp, four bytes to a part.
-fn put_timestamp(out: &mut Spelling, timestamp: &Timestamp, n: usize)
-    requires { array_vec_len out.old + length (encode_timestamp n timestamp.now) ≤ 3320 }
-    ensures { out.new.items ≡ out.old.items ++ encode_timestamp n timestamp.now }
+// Writes the timestamp that a message has for a state from a place on: from where it lies, since to copy it first takes longer than to write the entry.
+fn put_timestamp(out: &mut [u8], at: usize, n: usize, state: &State)
+    requires few { n ≤ 7 }
+    requires within { at + 4 * n ≤ length out.old }
+    ensures written { out.new ≡ put_at at (encode_timestamp n (timestamp_of state.now)) out.old }
+    ensures long { length (encode_timestamp n (timestamp_of state.now)) ≡ 4 * n }
 {
-    for part in timestamp.prefix(n) {
-        put(out, &part.to_le_bytes());
+    match state {
+        State::Value(_) => Timestamp::zero().put_parts(n, out, at),
+        State::Tombstone { timestamp, .. } => timestamp.put_parts(n, out, at),
     }
 }
 
-// Puts an entry of a message of n replicas.
-#[tactic(auto, using(crate::proofs::Written::length_entry))]
-fn put_entry(out: &mut Spelling, entry: &Entry, n: usize)
-    requires { array_vec_len out.old + length (encode_entry n entry.now) ≤ 3320 }
-    ensures { out.new.items ≡ out.old.items ++ encode_entry n entry.now }
+// Writes entries of a message of n replicas, one behind another, from a place on.
+fn put_entries(out: &mut [u8], at: usize, n: usize, entries: &[Entry])
+    requires few { n ≤ 7 }
+    requires within { at + length entries.now * entry_length n ≤ length out.old }
+    ensures { out.new ≡ put_at at (joined (encode_entry n) entries.now) out.old }
 {
-    put(out, &entry.seat.to_le_bytes());
-    put(out, &entry.state.word().to_le_bytes());
-    put(out, &entry.state.mark().to_le_bytes());
-    put_timestamp(out, &entry.state.timestamp(), n);
-}
-
-// Puts entries of a message of n replicas, one behind another.
-fn put_entries(out: &mut Spelling, entries: &[Entry], n: usize)
-    requires { array_vec_len out.old + length (joined (encode_entry n) entries.now) ≤ 3320 }
-    ensures { out.new.items ≡ out.old.items ++ joined (encode_entry n) entries.now }
-{
-    for entry in entries {
-        put_entry(out, entry, n);
+    let size = 20 + 4 * n;
+    for (i, entry) in entries.iter().enumerate() {
+        put_entry(out, at + i * size, n, entry);
     }
 }

@@ -14,6 +14,8 @@ use crate::timestamp::{Timestamp, is_group_size};
 
 impl Gossip {
     // A message without entries. What cannot be written is refused with the number that a reader would give it.
+    // Inlined, so that its 64 places are made where the caller keeps them, and not copied out of the answer.
+    #[inline]
     pub fn new(head: Head) -> Result<Gossip, Refusal>
         ensures answer { result ≡ started head }
     {

@@ -1,7 +1,7 @@
 use Rattle.std.proofs.Common.{◌≡◌, ◌*◌, length, refl, arith, take_all}
 use Rattle.gossip.specs.Format.{encode_timestamp}
 use Rattle.gossip.proofs.NumberLaws.{piece_within}
-use Rattle.checkpoint.proofs.Written.{written_start, written_next}
+use Rattle.gossip.proofs.Written.{written_start, written_next}
 use Rattle.checkpoint.proofs.writer.put_rows.Goals as goal
 
 pub loop-i-init : goal.loop-i-init

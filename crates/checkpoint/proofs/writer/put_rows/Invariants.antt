@@ -1,6 +1,6 @@
 use Rattle.std.proofs.Common.{◌*◌}
 use Rattle.gossip.specs.Format.{encode_timestamp}
-use Rattle.checkpoint.proofs.Written.{Written}
+use Rattle.gossip.proofs.Written.{Written}
 use Rattle.checkpoint.proofs.writer.put_rows.Given as goal
 
 abbrev pub invariant-loop-i : goal.invariant-loop-i
