@@ -6,9 +6,10 @@ ghost use Rattle.transport.specs.Timed.{SameTerms, eight, untimed, fresh};
 ghost use Rattle.transport.specs.Timings.{untimed_lawful};
 
 use super::Expiring;
-use super::readings::{take_off, timed};
+use super::readings::{take_off, write_timed};
 use crate::refusal::Refusal;
 use crate::transport::{MOST_BYTES, Transport};
+use arrayvec::ArrayVec;
 
 impl<T: Transport> Transport for Expiring<T> {
     ghost held = { λ e. untimed (T.held e.below) };
@@ -32,7 +33,11 @@ impl<T: Transport> Transport for Expiring<T> {
             (T.held self.new.below) }
         ensures terms { SameTerms T.longest self.old self.new }
     {
-        let whole = timed(reading, bytes)?;
+        if bytes.is_empty() {
+            return Err(Refusal::Length);
+        }
+        let mut whole = ArrayVec::new();
+        write_timed(reading, bytes, &mut whole)?;
         self.below.post(to, reading, &whole)
     }
 

@@ -1,6 +1,6 @@
 // Putting a reading in front of a message, and taking it off.
-ghost use Rattle.std.specs.Prelude.{◌≡◌, ◌+◌, ◌≤◌, ◌++◌, length, take, if◌then◌else◌, Ok, Err, not, nat_le};
-ghost use Rattle.transport.specs.Parcels.{measured, BeginsWith, sized};
+ghost use Rattle.std.specs.Prelude.{◌≡◌, ◌+◌, ◌≤◌, [], ◌++◌, length, take, if◌then◌else◌, Ok, Err, OnOk, not, nat_le};
+ghost use Rattle.transport.specs.Parcels.{measured, BeginsWith};
 ghost use Rattle.transport.specs.Timed.{eight, fresh};
 
 use crate::refusal::Refusal;
@@ -10,18 +10,19 @@ use arrayvec::ArrayVec;
 // The bytes of a reading.
 const FRONT: usize = 8;
 
-// A message with its reading in front, unless it has no byte or leaves no room for the reading.
-pub(super) fn timed(reading: u64, bytes: &[u8]) -> Result<ArrayVec<u8, MOST_BYTES>, Refusal>
-    ensures answer { result ≡ (if sized 3192 (length bytes.now)
-        then Ok (record { items = eight reading ++ bytes.now }) else Err Refusal.Length) }
+// Writes a message behind its reading, unless it leaves no room for the reading. The caller has the array, since to return it would copy all of it.
+pub(super) fn write_timed(
+    reading: u64,
+    bytes: &[u8],
+    whole: &mut ArrayVec<u8, MOST_BYTES>,
+) -> Result<(), Refusal>
+    requires empty { whole.old.items ≡ [] }
+    ensures answer { result ≡ (if nat_le (length bytes.now) 3192 then Ok tt else Err Refusal.Length) }
+    ensures after { OnOk result (whole.new.items ≡ eight reading ++ bytes.now) }
 {
-    if bytes.is_empty() {
-        return Err(Refusal::Length);
-    }
-    let mut whole = ArrayVec::new();
     whole.try_extend_from_slice(&reading.to_le_bytes())?;
     whole.try_extend_from_slice(bytes)?;
-    Ok(whole)
+    Ok(())
 }
 
 // Takes the reading off a message of `len` bytes, unless there is nothing behind it or it is out of date.

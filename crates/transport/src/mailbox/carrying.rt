@@ -5,7 +5,8 @@ ghost use Rattle.transport.specs.Refusals.{post_answer, taken};
 ghost use Rattle.transport.specs.Mailboxes.{parcels, most, free};
 ghost use Rattle.transport.specs.Boxes.{mailbox_lawful};
 
-use super::{Mailbox, Parcel};
+use super::Mailbox;
+use super::places::push_parcel;
 use crate::refusal::Refusal;
 use crate::transport::{MOST_BYTES, Transport};
 
@@ -27,11 +28,13 @@ impl Transport for Mailbox {
         ensures lost { Posted (parcels self.old) (taken result (parcel to bytes.now)) (parcels self.new) }
         ensures exact { parcels self.new ≡ parcels self.old ++ taken result (parcel to bytes.now) }
     {
-        let parcel = Parcel::new(to, bytes)?;
+        if bytes.is_empty() || bytes.len() > MOST_BYTES {
+            return Err(Refusal::Length);
+        }
         if self.is_full() {
             return Err(Refusal::Closed);
         }
-        self.places.push_reserved(parcel);
+        push_parcel(&mut self.places, to, bytes);
         Ok(())
     }
 
@@ -44,9 +47,10 @@ impl Transport for Mailbox {
         ensures exact { parcels self.new ≡ without to (parcels self.old) }
     {
         let at = self.position_of(to)?;
-        let Parcel { bytes, .. } = self.places.remove(at);
+        let bytes = &self.places.get(at)?.bytes;
         let len = bytes.len();
-        place[..len].copy_from_slice(&bytes);
+        place[..len].copy_from_slice(bytes);
+        self.places.remove(at);
         Some(len)
     }
 

@@ -1,12 +1,12 @@
 // Making a mailbox, and what lies in its places.
-ghost use Rattle.std.specs.Prelude.{◌≡◌, [], length, if◌then◌else◌, IfOk, Ok, Err, vec_len, nat_le, position};
-ghost use Rattle.transport.specs.Parcels.{is_for, parcel, sized};
+ghost use Rattle.std.specs.Prelude.{◌≡◌, ◌<◌, ◌≤◌, [], ◌∷◌, ◌++◌, length, IfOk, vec_len, vec_capacity, nat_le, position};
+ghost use Rattle.transport.specs.Parcels.{is_for, parcel};
 ghost use Rattle.transport.specs.Mailboxes.{parcels};
 
 use super::{Mailbox, PLACES, Parcel};
-use crate::refusal::Refusal;
 use arrayvec::ArrayVec;
 use std::alloc::{AllocError, Global};
+use std::mem;
 
 impl Mailbox {
     // A mailbox that holds nothing, with the memory of all its places.
@@ -33,15 +33,32 @@ impl Mailbox {
 }
 
 impl Parcel {
-    // A message for an addressee, unless it has no byte or too many for a place.
-    pub(super) fn new(to: usize, bytes: &[u8]) -> Result<Parcel, Refusal>
-        ensures answer { result ≡ (if sized 3200 (length bytes.now)
-            then Ok (parcel to bytes.now) else Err Refusal.Length) }
+    // Gives a parcel without bytes a message.
+    fn fill(&mut self, bytes: &[u8])
+        requires empty { self.old.bytes ≡ [] }
+        requires few { length bytes.now ≤ 3200 }
+        ensures after { self.new ≡ parcel self.old.to bytes.now }
     {
-        if bytes.is_empty() {
-            return Err(Refusal::Length);
-        }
-        let bytes = ArrayVec::try_from(bytes)?;
-        Ok(Parcel { to, bytes })
+        let _ = self.bytes.try_extend_from_slice(bytes);
     }
+}
+
+// Puts a message behind all others, straight into its place: to make the parcel first and to move it there would copy a whole place once more.
+// The vector is taken out meanwhile. Behind the reference the compiler would have to allow that clearing the place changes the vector too, and would read back what it just wrote.
+#[tactic(auto, using(std::proofs::lemmas::Grind::common_steps, std::proofs::lemmas::List::set_at))]
+pub(super) fn push_parcel(places: &mut Vec<Parcel>, to: usize, bytes: &[u8])
+    requires free { vec_len places.old < vec_capacity places.old }
+    requires few { length bytes.now ≤ 3200 }
+    ensures items { places.new.items ≡ places.old.items ++ parcel to bytes.now ∷ [] }
+    ensures room { vec_capacity places.new ≡ vec_capacity places.old }
+{
+    let none = Vec::new(*places.allocator());
+    let mut all = mem::replace(places, none);
+    let at = all.len();
+    all.push_reserved(Parcel {
+        to,
+        bytes: ArrayVec::new(),
+    });
+    all[at].fill(bytes);
+    *places = all;
 }
