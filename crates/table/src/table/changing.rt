@@ -14,7 +14,7 @@ use gossip::{ENTRIES, Entry, State};
 impl Table {
     // Lends the state of a seat's entry, to be changed in its place; every other entry stays. None without an entry, and nothing changes then.
     pub fn state_mut(&mut self, seat: u64) -> Option<&mut State>
-        ensures* after { sem 𝓛 (follows_so table-row state-row self.entry.ghost_name (name_of result) (λ w n. n ≡ changed self.old seat w) (λ n. n ≡ self.old)) }
+        ensures* after { sem 𝓛 (follows_so table-row state-row self.entry.ghost_name (name_of result) (λ w n. (n ≡ changed self.old seat w) × Sorted n) (λ n. (n ≡ self.old) × Sorted n)) }
         ensures answer { option_map (λ x. x.now) result ≡ find self.old seat }
     {
         let place = self.place(seat).ok()?;
